@@ -1,0 +1,5 @@
+pub mod Signs
+pub mod Values
+pub mod Whole
+pub mod Halves
+pub mod Cross

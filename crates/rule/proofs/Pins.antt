@@ -1,0 +1,183 @@
+-- S12: the checkpoints P1 to P12 hold; and rows of our own for what they let pass. Assumes nothing.
+use mathlib.Core.Path.{_≡_, refl}
+use mathlib.Core.Bool.{Bool, true, false}
+use mathlib.Core.List.{List, [], _∷_, map}
+use mathlib.Core.Option.{none, some}
+use Prim.Native.Nat.{ℕ, _*_}
+use lib.IntN.{ℤ, pos, negsuc}
+use lib.Ieee.{Float, nan, inf, fin, binary64, ofBits}
+use Rattle.rule.specs.Sizes.{slots, slotFloats, slotWords, areaFloats, areaWords}
+use Rattle.rule.specs.Grid.{Point, onGrid, coord, points, half, within, positive}
+use Rattle.rule.specs.Plain.{indexRule}
+use Rattle.rule.specs.Rings.{badTable, ringsFrom, joined, endsFrom, allClosed, lineRule, polygonRule}
+use Rattle.rule.specs.Area.{area}
+use Rattle.rule.specs.Reasons.{firstOffGrid, repeatReason, thinReason, polygonReason, clearReason, openReason, slotReason, readReason}
+use Rattle.rule.specs.Checkpoints.{pt, whole, halfOf, near668·6, Row, _⊢_, one, table}
+
+-- ---- P1 to P12, as one table under one claim
+pub checkpoints : map (λ r. r .given) table ≡ map (λ r. r .wanted) table
+unfolding table
+checkpoints = refl
+
+-- 668.6 by its bits
+pub near-is : ofBits binary64 0x4084E4CCCCCCCCCD ≡ near668·6
+unfolding ofBits
+near-is = refl
+
+-- ---- the preserving rule
+
+-- A square with a hole across both diagonals: at the second minimum a crossing stops it, and the other ring is seen.
+abbrev pub holed : List Point
+holed = pt 0 0 ∷ pt 4 0 ∷ pt 4 4 ∷ pt 0 4 ∷ pt 0 0 ∷ pt 1 2 ∷ pt 2 1 ∷ pt 3 3 ∷ pt 1 2 ∷ []
+
+-- The hole is thinned beside the shell already thinned: beside the whole shell it would keep its point 6.
+abbrev beside : List Point
+beside = pt 3 1 ∷ pt 1 0 ∷ pt 0 2 ∷ pt 0 0 ∷ pt 3 1 ∷ pt 0 1 ∷ pt 3 1 ∷ pt 1 1 ∷ pt 1 3 ∷ pt 0 1 ∷ []
+
+-- The new segment has the coordinates of a present one's end under another index: no crossing.
+abbrev revisited : List Point
+revisited = pt 3 1 ∷ pt 0 3 ∷ pt 3 1 ∷ pt 1 1 ∷ pt 3 1 ∷ []
+
+-- The ring has four points, at the first minimum, and stays.
+abbrev spike : List Point
+spike = pt 0 0 ∷ pt 2 0 ∷ pt 1 0 ∷ pt 0 0 ∷ []
+
+-- The removal of point 3 crosses, and demotes the point before it, not the one after.
+abbrev hook : List Point
+hook = pt 0 2 ∷ pt 2 1 ∷ pt 0 0 ∷ pt 0 1 ∷ pt 1 2 ∷ []
+
+abbrev crossed : List Point
+crossed = pt 3 1 ∷ pt 2 2 ∷ pt 0 4 ∷ pt 3 4 ∷ pt 1 1 ∷ []
+
+-- A removal that does not cross demotes nothing.
+abbrev bend : List Point
+bend = pt 0 2 ∷ pt 2 2 ∷ pt 0 1 ∷ pt 1 1 ∷ []
+
+-- Segments that touch in a point, lie on one line or have no length.
+abbrev touching : List Point
+touching = pt 3 0 ∷ pt 1 0 ∷ pt 4 3 ∷ pt 2 0 ∷ pt 2 0 ∷ []
+
+abbrev upright : List Point
+upright = pt 1 3 ∷ pt 5 1 ∷ pt 1 5 ∷ pt 1 4 ∷ pt 1 1 ∷ []
+
+-- Segments that share an end with the new one, at either end of each.
+abbrev fourPoints : List Point
+fourPoints = pt 1 0 ∷ pt 4 3 ∷ pt 0 4 ∷ pt 0 1 ∷ []
+
+abbrev otherFour : List Point
+otherFour = pt 5 2 ∷ pt 1 3 ∷ pt 3 3 ∷ pt 0 1 ∷ []
+
+unfoldable pub ourRows : List Row
+unfolding indexRule lineRule polygonRule
+ourRows =
+    (polygonRule holed (whole 100) (5 ∷ 9 ∷ []) ⊢ (0 ∷ 1 ∷ 2 ∷ 3 ∷ 4 ∷ []) ∷ (5 ∷ 6 ∷ 7 ∷ 8 ∷ []) ∷ [])
+    ∷ (polygonRule beside (whole 100) (5 ∷ 10 ∷ []) ⊢ (0 ∷ 1 ∷ 3 ∷ 4 ∷ []) ∷ (5 ∷ 7 ∷ 8 ∷ 9 ∷ []) ∷ [])
+    ∷ (polygonRule revisited (whole 3) (5 ∷ []) ⊢ one (0 ∷ 2 ∷ 3 ∷ 4 ∷ []))
+    ∷ (polygonRule spike (whole 6) (4 ∷ []) ⊢ one (0 ∷ 1 ∷ 2 ∷ 3 ∷ []))
+    ∷ (one (lineRule hook (whole 1)) ⊢ one (0 ∷ 4 ∷ []))
+    ∷ (one (lineRule crossed (whole 2)) ⊢ one (0 ∷ 2 ∷ 3 ∷ 4 ∷ []))
+    ∷ (one (lineRule bend (halfOf 1)) ⊢ one (0 ∷ 1 ∷ 3 ∷ []))
+    ∷ (one (lineRule touching (halfOf 1)) ⊢ one (0 ∷ 4 ∷ []))
+    ∷ (one (lineRule upright (whole 1)) ⊢ one (0 ∷ 1 ∷ 4 ∷ []))
+    ∷ (one (lineRule fourPoints (whole 6)) ⊢ one (0 ∷ 3 ∷ []))
+    ∷ (one (lineRule otherFour (whole 3)) ⊢ one (0 ∷ 2 ∷ 3 ∷ []))
+    -- a tolerance of zero keeps all
+    ∷ (lineRule touching (whole 0) ∷ indexRule touching (whole 0) ∷ [] ⊢ (0 ∷ 1 ∷ 2 ∷ 3 ∷ 4 ∷ []) ∷ (0 ∷ 1 ∷ 2 ∷ 4 ∷ []) ∷ [])
+    ∷ []
+
+pub our-rows : map (λ r. r .given) ourRows ≡ map (λ r. r .wanted) ourRows
+unfolding ourRows
+our-rows = refl
+
+-- ---- the grid, and exact values
+
+-- 2^24 either way and -0.0 are on it; 2^24 + 1 either way, 0.5, NaN and the infinities are not
+pub on-grid-row : map onGrid (fin false 1 (pos 24) ∷ fin true 1 (pos 24) ∷ fin true 0 (pos 0) ∷ fin false 16777217 (pos 0) ∷ fin true 16777217 (pos 0) ∷ fin false 1 (negsuc 0) ∷ nan ∷ inf false ∷ inf true ∷ [])
+    ≡ true ∷ true ∷ true ∷ false ∷ false ∷ false ∷ false ∷ false ∷ false ∷ []
+unfolding onGrid
+on-grid-row = refl
+
+pub coord-row : map coord (fin true 0 (pos 0) ∷ fin true 1 (pos 24) ∷ fin false 3 (pos 2) ∷ []) ≡ pos 0 ∷ negsuc 16777215 ∷ pos 12 ∷ []
+unfolding coord
+coord-row = refl
+
+-- 0, 1.5, 29 and the largest area, 2^49
+pub half-row : map half (0 ∷ 3 ∷ 58 ∷ 1125899906842624 ∷ []) ≡ fin false 0 (pos 0) ∷ fin false 3 (negsuc 0) ∷ fin false 29 (pos 0) ∷ fin false 1 (pos 49) ∷ []
+unfolding half
+half-row = refl
+
+-- areas of 0, 28.5 and 29 against 28.5, against 0, against -0.0 and against -1
+pub within-row : map (λ t. map (λ d. within d t) (0 ∷ 57 ∷ 58 ∷ [])) (halfOf 57 ∷ whole 0 ∷ fin true 0 (pos 0) ∷ fin true 1 (pos 0) ∷ [])
+    ≡ (true ∷ true ∷ false ∷ []) ∷ (true ∷ false ∷ false ∷ []) ∷ (true ∷ false ∷ false ∷ []) ∷ (false ∷ false ∷ false ∷ []) ∷ []
+unfolding within
+within-row = refl
+
+pub positive-row : map positive (whole 1 ∷ whole 0 ∷ fin true 0 (pos 0) ∷ fin true 1 (pos 0) ∷ nan ∷ []) ≡ true ∷ false ∷ false ∷ false ∷ false ∷ []
+unfolding positive
+positive-row = refl
+
+-- ---- ring tables of nine points: good ones, an empty one, one too short, one that decreases, one that ends late
+pub table-row : map (badTable 9) ((9 ∷ []) ∷ (5 ∷ 5 ∷ 9 ∷ []) ∷ [] ∷ (5 ∷ 8 ∷ []) ∷ (9 ∷ 5 ∷ 9 ∷ []) ∷ (5 ∷ 10 ∷ []) ∷ [])
+    ≡ false ∷ false ∷ true ∷ true ∷ true ∷ true ∷ []
+unfolding badTable
+table-row = refl
+
+pub rings-row : ringsFrom 0 (2 ∷ 2 ∷ 5 ∷ []) ≡ (0 ∷ 1 ∷ []) ∷ [] ∷ (2 ∷ 3 ∷ 4 ∷ []) ∷ []
+unfolding ringsFrom
+rings-row = refl
+
+pub closed-row : map (λ table. allClosed holed (ringsFrom 0 table)) ((5 ∷ 9 ∷ []) ∷ (5 ∷ 5 ∷ 9 ∷ []) ∷ (4 ∷ 9 ∷ []) ∷ []) ≡ true ∷ true ∷ false ∷ []
+unfolding allClosed ringsFrom
+closed-row = refl
+
+pub ends-row : endsFrom 0 ((0 ∷ 2 ∷ []) ∷ [] ∷ (5 ∷ []) ∷ []) ≡ 2 ∷ 2 ∷ 3 ∷ []
+unfolding endsFrom
+ends-row = refl
+
+-- ---- the work area is so many slots
+pub area-is-slots : (areaFloats ≡ slots * slotFloats) × (areaWords ≡ slots * slotWords)
+area-is-slots = (refl, refl)
+
+-- ---- the reasons: each number is given, and of two that apply the one that comes first in the call's order
+
+-- two points, and what may be wrong with them
+abbrev pub xs : List Float
+xs = whole 1 ∷ whole 2 ∷ []
+
+abbrev pub off : List Float
+off = whole 1 ∷ halfOf 1 ∷ []
+
+abbrev pub three : List Float
+three = whole 1 ∷ whole 2 ∷ whole 1 ∷ []
+
+-- 1; 3; 7; 0; 1 before 3; 3 before 7
+pub repeat-row : repeatReason xs three 9 ∷ repeatReason xs off 2 ∷ repeatReason xs xs 1 ∷ repeatReason xs xs 2 ∷ repeatReason off three 2 ∷ repeatReason off xs 0 ∷ []
+    ≡ 1 ∷ 3 ∷ 7 ∷ 0 ∷ 1 ∷ 3 ∷ []
+unfolding repeatReason firstOffGrid
+repeat-row = refl
+
+-- the least point off the grid comes with 3
+pub off-row : firstOffGrid xs off ∷ firstOffGrid off off ∷ firstOffGrid (nan ∷ off) three ∷ firstOffGrid xs xs ∷ [] ≡ some 1 ∷ some 1 ∷ some 0 ∷ none ∷ []
+unfolding firstOffGrid
+off-row = refl
+
+-- 1; 4; 3; 7; 8 by the floats; 8 by the words; 0; 1 before 4; 4 before 3; 7 before 8
+pub thin-row : thinReason xs three (whole 1) 2 6 24 ∷ thinReason xs xs nan 2 6 24 ∷ thinReason xs off (whole 1) 2 6 24 ∷ thinReason xs xs (whole 1) 1 6 24
+    ∷ thinReason xs xs (whole 1) 2 5 24 ∷ thinReason xs xs (whole 1) 2 6 23 ∷ thinReason xs xs (whole 1) 2 6 24 ∷ thinReason xs three nan 2 6 24
+    ∷ thinReason xs off (inf true) 2 6 24 ∷ thinReason xs xs (whole 1) 1 5 24 ∷ []
+    ≡ 1 ∷ 4 ∷ 3 ∷ 7 ∷ 8 ∷ 8 ∷ 0 ∷ 1 ∷ 4 ∷ 7 ∷ []
+unfolding thinReason firstOffGrid
+thin-row = refl
+
+-- 5; 6; 7 by the output; 7 by the ring output; 8; 0; 3 before 5; 5 before 6; 6 before 7
+pub polygon-row : polygonReason three three (whole 1) (2 ∷ []) 3 1 9 36 ∷ polygonReason xs xs (whole 1) (2 ∷ []) 2 1 6 24 ∷ polygonReason three three (whole 1) (3 ∷ []) 2 1 9 36
+    ∷ polygonReason three three (whole 1) (3 ∷ []) 3 0 9 36 ∷ polygonReason three three (whole 1) (3 ∷ []) 3 1 8 36 ∷ polygonReason three three (whole 1) (3 ∷ []) 3 1 9 36
+    ∷ polygonReason off xs (whole 1) [] 2 1 6 24 ∷ polygonReason xs xs (whole 1) (2 ∷ 1 ∷ []) 2 2 6 24 ∷ polygonReason xs xs (whole 1) (2 ∷ []) 0 0 6 24 ∷ []
+    ≡ 5 ∷ 6 ∷ 7 ∷ 7 ∷ 8 ∷ 0 ∷ 3 ∷ 5 ∷ 6 ∷ []
+unfolding polygonReason firstOffGrid badTable allClosed ringsFrom points
+polygon-row = refl
+
+-- a short area is 8 for every slot call, whatever else is wrong
+pub slots-row : clearReason (area [] []) ∷ openReason 9 xs off nan (area [] []) ∷ slotReason 9 (area [] []) ∷ readReason 9 (area [] []) 0 1 ∷ [] ≡ 8 ∷ 8 ∷ 8 ∷ 8 ∷ []
+unfolding clearReason openReason slotReason readReason
+slots-row = refl

@@ -1,0 +1,14 @@
+pub mod Sizes
+pub mod Grid
+pub mod Segment
+pub mod Plain
+pub mod Preserve
+pub mod Repeat
+pub mod Rings
+pub mod Checkpoints
+pub mod Answers
+pub mod Area
+pub mod Reasons
+pub mod Whole
+pub mod Slots
+pub mod SlotCalls
