@@ -1,0 +1,5 @@
+pub mod Scan
+pub mod Rows
+pub mod Verdict
+pub mod Points
+pub mod Zeros

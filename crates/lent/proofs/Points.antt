@@ -1,0 +1,29 @@
+-- Lent coordinates as points: how many, and what stands at an index. Assumes nothing.
+use mathlib.Core.Path.{_≡_, refl, ap}
+use mathlib.Core.List.{List, [], _∷_}
+use Prim.Native.Nat.{ℕ, zero, suc, _<_}
+use native.Mathlib.Omega.{arith}
+use lib.ListN.{length, getD}
+use lib.Ieee.{Float, nan}
+use Rattle.rule.specs.Grid.{points, at, pointOf}
+use Rattle.lent.specs.Fine.{Fine}
+
+count : (us vs : List Float) → length us ≡ length vs → length (points us vs) ≡ length us
+unfolding points
+count [] vs e = refl
+count (u ∷ us) [] e = absurd (omega arith)
+count (u ∷ us) (v ∷ vs) e = ap suc (count us vs (omega arith))
+
+stands : (us vs : List Float) (i : ℕ) → length us ≡ length vs → i < length us → at (points us vs) i ≡ pointOf (getD us i nan) (getD vs i nan)
+unfolding points
+stands [] vs i e h = absurd (omega arith)
+stands (u ∷ us) [] i e h = absurd (omega arith)
+stands (u ∷ us) (v ∷ vs) zero e h = refl
+stands (u ∷ us) (v ∷ vs) (suc i) e h = stands us vs i (omega arith) (omega arith)
+
+module _ {us vs : List Float} (f : Fine us vs) where
+  pub length-points : length (points us vs) ≡ length us
+  length-points = count us vs (f .level)
+
+  pub at-points : (i : ℕ) → i < length us → at (points us vs) i ≡ pointOf (getD us i nan) (getD vs i nan)
+  at-points i h = stands us vs i (f .level) h
