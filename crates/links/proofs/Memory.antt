@@ -1,0 +1,147 @@
+-- Links in lent memory: the words of one point written, memory that is the same where it counts, and a point taken out. Assumes nothing.
+use mathlib.Core.Path.{_≡_, refl, _∙_}
+use mathlib.Core.List.{List}
+use mathlib.Core.Logic.{_⊎_, ⊎-elim}
+use Prim.Native.Nat.{ℕ, _+_, _*_, _≤_, _<_}
+use native.Mathlib.Omega.{arith}
+use lib.ListN.{length, getD, set, length-set}
+use lib.Seq.{getD-set-same, getD-set-other}
+use Rattle.layout.specs.declared.Layout.{Layout}
+use Rattle.rule.specs.Plain.{without}
+use Rattle.vscore.specs.declared.VScore.{VScore}
+use Rattle.links.specs.Words.{HasLinks, previousAt, nextAt, markAt, linkedAs, unlinked, SameLinks, OnlyLinks}
+use Rattle.links.specs.Ring.{Triple, Ring, Live}
+use Rattle.links.proofs.Ring.{ring-below, linked-same, taken-out}
+
+-- ---- three words written, at three places
+
+module _ (ws : List ℕ) (a b c : ℕ) (u v w : ℕ) where
+  abbrev three : List ℕ
+  three = set (set (set ws a u) b v) c w
+
+  three-other : (j : ℕ) → (j ≡ a → ⊥) → (j ≡ b → ⊥) → (j ≡ c → ⊥) → getD three j 0 ≡ getD ws j 0
+  three-other j p q r = getD-set-other (set (set ws a u) b v) c j w 0 r ∙ getD-set-other (set ws a u) b j v 0 q ∙ getD-set-other ws a j u 0 p
+
+  module _ (la : a < length ws) (lb : b < length ws) (lc : c < length ws) (ab : a ≡ b → ⊥) (ac : a ≡ c → ⊥) (bc : b ≡ c → ⊥) where
+    three-first : getD three a 0 ≡ u
+    three-first = getD-set-other (set (set ws a u) b v) c a w 0 ac ∙ getD-set-other (set ws a u) b a v 0 ab ∙ getD-set-same ws a u 0 la
+
+    three-second : getD three b 0 ≡ v
+    three-second = getD-set-other (set (set ws a u) b v) c b w 0 bc ∙ getD-set-same (set ws a u) b v 0 (simp length-set lb)
+
+    three-third : getD three c 0 ≡ w
+    three-third = getD-set-same (set (set ws a u) b v) c w 0 (simp length-set lc)
+
+-- ---- memory that is the same where it counts
+
+module _ {ws : List ℕ} {m : Layout} {ws′ : List ℕ} where
+  -- from the links on
+  pub same-from : ((j : ℕ) → m .links ≤ j → getD ws′ j 0 ≡ getD ws j 0) → (i : ℕ) → SameLinks ws m ws′ i
+  same-from e i = record {
+    previous = e (m .links + i) (omega arith);
+    next = e (m .links + m .points + i) (omega arith);
+    mark = e (m .links + 2 * m .points + i) (omega arith);
+  }
+
+  -- at a ring's points
+  pub ring-same : {lo hi : ℕ} {ks : List ℕ} → ((i : ℕ) → lo ≤ i → i < hi → SameLinks ws m ws′ i) → Ring ws m lo hi ks → Ring ws′ m lo hi ks
+  ring-same e h = linked-same h (λ i p q. let s = e i p q in (s .previous, s .next, s .mark))
+
+  pub live-same : {s : VScore} → SameLinks ws m ws′ (s .current) → Live ws m s → Live ws′ m s
+  live-same e a = record {
+    left = a .left;
+    current = a .current;
+    right = a .right;
+    unmarked = e .mark ∙ a .unmarked;
+    behind = e .previous ∙ a .behind;
+    ahead = e .next ∙ a .ahead;
+  }
+
+pub only-self : (ws : List ℕ) (m : Layout) (lo hi : ℕ) → OnlyLinks ws m lo hi ws
+only-self ws m lo hi = record { others = λ i l w. record { previous = refl; next = refl; mark = refl }; before = λ j h. refl; after = λ j h. refl }
+
+pub only-then : {ws ws′ ws″ : List ℕ} {m : Layout} {lo hi : ℕ} → OnlyLinks ws m lo hi ws′ → OnlyLinks ws′ m lo hi ws″ → OnlyLinks ws m lo hi ws″
+only-then f g = record {
+  others = λ i l w.
+      let a = f .others i l w in
+      let b = g .others i l w in
+      record { previous = b .previous ∙ a .previous; next = b .next ∙ a .next; mark = b .mark ∙ a .mark };
+  before = λ j h. g .before j h ∙ f .before j h;
+  after = λ j h. g .after j h ∙ f .after j h;
+}
+
+-- ---- a point kept between two
+
+module _ (ws : List ℕ) (m : Layout) (i p q : ℕ) (room : HasLinks m ws) (l : i < m .points) where
+  pub linked-previous : previousAt (linkedAs ws m i p q) m i ≡ p
+  linked-previous =
+      three-first ws (m .links + i) (m .links + m .points + i) (m .links + 2 * m .points + i) p q 0
+      (omega arith) (omega arith) (omega arith) (λ e. omega arith) (λ e. omega arith) (λ e. omega arith)
+
+  pub linked-next : nextAt (linkedAs ws m i p q) m i ≡ q
+  linked-next =
+      three-second ws (m .links + i) (m .links + m .points + i) (m .links + 2 * m .points + i) p q 0
+      (omega arith) (omega arith) (omega arith) (λ e. omega arith) (λ e. omega arith) (λ e. omega arith)
+
+  pub linked-mark : markAt (linkedAs ws m i p q) m i ≡ 0
+  linked-mark =
+      three-third ws (m .links + i) (m .links + m .points + i) (m .links + 2 * m .points + i) p q 0
+      (omega arith) (omega arith) (omega arith) (λ e. omega arith) (λ e. omega arith) (λ e. omega arith)
+
+  linked-at : (j : ℕ) → (j ≡ m .links + i → ⊥) → (j ≡ m .links + m .points + i → ⊥) → (j ≡ m .links + 2 * m .points + i → ⊥)
+      → getD (linkedAs ws m i p q) j 0 ≡ getD ws j 0
+  linked-at = three-other ws (m .links + i) (m .links + m .points + i) (m .links + 2 * m .points + i) p q 0
+
+  pub linked-others : (k : ℕ) → k < m .points → (k ≡ i → ⊥) → SameLinks ws m (linkedAs ws m i p q) k
+  linked-others k g ne = record {
+    previous = linked-at (m .links + k) (λ e. ne (omega arith)) (λ e. omega arith) (λ e. omega arith);
+    next = linked-at (m .links + m .points + k) (λ e. omega arith) (λ e. ne (omega arith)) (λ e. omega arith);
+    mark = linked-at (m .links + 2 * m .points + k) (λ e. omega arith) (λ e. omega arith) (λ e. ne (omega arith));
+  }
+
+  pub linked-only : (lo hi : ℕ) → lo ≤ i → i < hi → OnlyLinks ws m lo hi (linkedAs ws m i p q)
+  linked-only lo hi a b = record {
+    others = λ k g w. linked-others k g (λ e. ⊎-elim (λ h. omega arith) (λ h. omega arith) w);
+    before = λ j h. linked-at j (λ e. omega arith) (λ e. omega arith) (λ e. omega arith);
+    after = λ j h. linked-at j (λ e. omega arith) (λ e. omega arith) (λ e. omega arith);
+  }
+
+-- ---- s's point taken out
+
+module _ (ws : List ℕ) (m : Layout) (s : VScore) where
+  unlinked-at : (j : ℕ) → (j ≡ m .links + m .points + s .left → ⊥) → (j ≡ m .links + s .right → ⊥) → (j ≡ m .links + 2 * m .points + s .current → ⊥)
+      → getD (unlinked ws m s) j 0 ≡ getD ws j 0
+  unlinked-at = three-other ws (m .links + m .points + s .left) (m .links + s .right) (m .links + 2 * m .points + s .current) (s .right) (s .left) 1
+
+  -- only the links of its own ring may differ
+  pub unlinked-only : (lo hi : ℕ) → hi ≤ m .points → (lo ≤ s .left) × (s .left < hi) → (lo ≤ s .current) × (s .current < hi) → (lo ≤ s .right) × (s .right < hi)
+      → OnlyLinks ws m lo hi (unlinked ws m s)
+  unlinked-only lo hi to pl pc pr = record {
+    others = λ i l w. record {
+      previous = unlinked-at (m .links + i) (λ e. omega arith) (λ e. out i w (s .right) pr (omega arith)) (λ e. omega arith);
+      next = unlinked-at (m .links + m .points + i) (λ e. out i w (s .left) pl (omega arith)) (λ e. omega arith) (λ e. omega arith);
+      mark = unlinked-at (m .links + 2 * m .points + i) (λ e. omega arith) (λ e. omega arith) (λ e. out i w (s .current) pc (omega arith));
+    };
+    before = λ j h. unlinked-at j (λ e. omega arith) (λ e. omega arith) (λ e. omega arith);
+    after = λ j h. unlinked-at j (λ e. omega arith) (λ e. omega arith) (λ e. omega arith);
+  }
+    where
+      out : (i : ℕ) → (i < lo) ⊎ (hi ≤ i) → (x : ℕ) → (lo ≤ x) × (x < hi) → i ≡ x → ⊥
+      out i w x p e = ⊎-elim (λ h. omega (arith, p .0)) (λ h. omega (arith, p .1)) w
+
+  module _ {lo hi : ℕ} {ks : List ℕ} (room : HasLinks m ws) (h : Ring ws m lo hi ks) (v : Triple ks (s .left) (s .current) (s .right)) where
+    pub unlinked-ring : Ring (unlinked ws m s) m lo hi (without (s .current) ks)
+    unlinked-ring =
+        let l = ring-below h (s .left) (v .low .from) in
+        let c = ring-below h (s .current) (v .low .to) in
+        let r = ring-below h (s .right) (v .high .to) in
+        let first = m .links + m .points + s .left in
+        let second = m .links + s .right in
+        let third = m .links + 2 * m .points + s .current in
+        taken-out h (s .left) (s .current) (s .right) v
+        (three-second ws first second third (s .right) (s .left) 1 (omega arith) (omega arith) (omega arith) (λ e. omega arith) (λ e. omega arith) (λ e. omega arith))
+        (λ i g ne. unlinked-at (m .links + i) (λ e. omega arith) (λ e. ne (omega arith)) (λ e. omega arith))
+        (three-first ws first second third (s .right) (s .left) 1 (omega arith) (omega arith) (omega arith) (λ e. omega arith) (λ e. omega arith) (λ e. omega arith))
+        (λ i g ne. unlinked-at (m .links + m .points + i) (λ e. ne (omega arith)) (λ e. omega arith) (λ e. omega arith))
+        (three-third ws first second third (s .right) (s .left) 1 (omega arith) (omega arith) (omega arith) (λ e. omega arith) (λ e. omega arith) (λ e. omega arith))
+        (λ i g ne. unlinked-at (m .links + 2 * m .points + i) (λ e. omega arith) (λ e. omega arith) (λ e. ne (omega arith)))

@@ -1,0 +1,81 @@
+-- `links::link` meets its contract. Assumes nothing.
+use Prim.Native.Nat.{_-_}
+use native.Mathlib.Omega.{arith}
+use borrow.Author.Needs.{needs}
+use Rattle.links.proofs.Linking.{Linking, linking-start, linking-more, linking-end, back-small, ahead-small}
+use Rattle.links.proofs.link.Statement.{statement}
+use Rattle.links.proofs.link.Tie as tie
+
+abbrev Inv-loop : tie.InvT-loop
+Inv-loop words₀ m lo hi i₀ words i = Linking words₀ m lo hi words i
+
+abbrev μ-loop : tie.MeasureT-loop
+μ-loop words₀ m lo hi i₀ words i = hi - i
+
+loop-holds : tie.Need-loop-holds Inv-loop μ-loop
+loop-holds c = linking-start _ _ _ _ (c .before .pre .2) (c .before .pre .3)
+
+point-before-requires : tie.Need-point-before-requires Inv-loop μ-loop
+point-before-requires c κs = search needs
+
+point-after-requires : tie.Need-point-after-requires Inv-loop μ-loop
+point-after-requires c κs = search needs
+
+cast-join : tie.Need-cast-join Inv-loop μ-loop
+cast-join c =
+    let b = c .before .before in
+    let l = b .before .before in
+    let a = l .before .before .args in
+    omega (arith, b .point-before .ensures, back-small (a .lo) (a .m .points) (l .loop .i) (omega (arith, b .before .loop-test .taken)))
+
+cast-join-2 : tie.Need-cast-join-2 Inv-loop μ-loop
+cast-join-2 c =
+    let b = c .before in
+    let l = b .before .before .before in
+    let a = l .before .before .args in
+    omega (arith, b .point-after .ensures, ahead-small (a .hi) (a .m .points) (l .loop .i) (omega (arith, b .before .before .loop-test .taken)))
+
+join-requires : tie.Need-join-requires Inv-loop μ-loop
+join-requires c κs = search needs
+
+add-i : tie.Need-add-i Inv-loop μ-loop
+add-i c = omega arith
+
+loop-less : tie.Need-loop-less Inv-loop μ-loop
+loop-less c = omega arith
+
+loop-again : tie.Need-loop-again Inv-loop μ-loop
+loop-again c =
+    let j = c .before .before in
+    let a = j .before .before in
+    let b = a .before in
+    let l = b .before .before in
+    let z = l .before .before .pre in
+    linking-more _ _ _ _ (z .2) (z .3) _ _ (l .loop .inv) (z .0) (b .before .loop-test .taken) (b .point-before .ensures) (a .point-after .ensures) (j .join .ensures)
+
+same-length : tie.Need-same-length Inv-loop μ-loop
+same-length c = c .before .loop .inv .size
+
+returns : tie.Need-returns Inv-loop μ-loop
+returns c =
+    let l = c .before in
+    let z = l .before .before .pre in
+    linking-end _ _ _ _ (z .2) (z .3) _ _ (l .loop .inv) (c .loop-test .left)
+
+pub link-spec : {M : Type 1} → statement M
+link-spec =
+    tie.close
+    (tie.spec
+    Inv-loop
+    μ-loop
+    loop-holds
+    point-before-requires
+    point-after-requires
+    cast-join
+    cast-join-2
+    join-requires
+    add-i
+    loop-less
+    loop-again
+    same-length
+    returns)

@@ -1,0 +1,49 @@
+-- `thin::put` meets its contract. Assumes nothing.
+use borrow.Author.Needs.{needs}
+use Rattle.thin.proofs.Queue.{put-full, put-missing, put-pushes}
+use Rattle.thin.proofs.put.Statement.{statement}
+use Rattle.thin.proofs.put.Tie as tie
+
+returns : tie.Need-returns
+returns c = put-full _ (c .if1 .taken)
+
+enum-told : tie.Need-enum-told
+enum-told c = search needs
+
+enum-known-scored : tie.Need-enum-known-scored
+enum-known-scored c = search needs
+
+push-requires : tie.Need-push-requires
+push-requires c κs = search needs
+
+add-result : tie.Need-add-result
+add-result c = search needs
+
+returns-2 : tie.Need-returns-2
+returns-2 c = put-missing (c .enum-told .given .1)
+
+same-length : tie.Need-same-length
+same-length c = search needs
+
+same-length-2 : tie.Need-same-length-2
+same-length-2 c = search needs
+
+returns-3 : tie.Need-returns-3
+returns-3 c =
+    let p = c .before .before .before .before in
+    let s = p .before .before .before .before in
+    put-pushes (s .scored .given .1) (s .before .before .if1 .left) (p .push .ensures)
+
+pub put-spec : {M : Type 1} → statement M
+put-spec =
+    tie.close
+    (tie.spec
+    returns
+    enum-told
+    enum-known-scored
+    push-requires
+    add-result
+    returns-2
+    same-length
+    same-length-2
+    returns-3)

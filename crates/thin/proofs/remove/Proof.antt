@@ -1,0 +1,86 @@
+-- `thin::remove` meets its contract. Assumes nothing.
+use mathlib.Core.Path.{refl, _∙_}
+use native.Mathlib.Omega.{arith}
+use borrow.Author.Needs.{needs}
+use Rattle.thin.proofs.Removing.{room-as, removed-law}
+use Rattle.thin.proofs.Scoring.{scored-demoted}
+use Rattle.thin.proofs.remove.Statement.{statement}
+use Rattle.thin.proofs.remove.Tie as tie
+
+unlink-requires : tie.Need-unlink-requires
+unlink-requires c κs = search needs
+
+cast-previous : tie.Need-cast-previous
+cast-previous c = search needs
+
+previous-requires : tie.Need-previous-requires
+previous-requires c κs = search needs
+
+cast-next : tie.Need-cast-next
+cast-next c = search needs
+
+next-requires : tie.Need-next-requires
+next-requires c κs = search needs
+
+score-of-requires : tie.Need-score-of-requires
+score-of-requires c κs = search needs
+
+score-of-requires-2 : tie.Need-score-of-requires-2
+score-of-requires-2 c κs = search needs
+
+demoted-if-requires : tie.Need-demoted-if-requires
+demoted-if-requires c κs = search needs
+
+put-requires : tie.Need-put-requires
+put-requires c κs =
+    let u = c .before .before .before .before .before .before .before .before .before .before .before .before .before in
+    room-as refl (u .unlink .kept .0) (u .before .before .before .before .before .before .pre .1)
+
+put-requires-2 : tie.Need-put-requires-2
+put-requires-2 c κs =
+    let p = c .before .before .before .before .before .before in
+    let u = p .before .before .before .before .before .before .before .before .before .before .before .before .before .before in
+    room-as (p .put .kept .0) (p .put .kept .1 .0 ∙ u .unlink .kept .0) (u .before .before .before .before .before .before .pre .1)
+
+same-length : tie.Need-same-length
+same-length c = search needs
+
+same-length-2 : tie.Need-same-length-2
+same-length-2 c =
+    let q = c .before .before .before .before in
+    let p = q .before .before .before .before .before .before .before in
+    let u = p .before .before .before .before .before .before .before .before .before .before .before .before .before .before in
+    omega (arith, q .put2 .kept .1 .0, p .put .kept .1 .0, u .unlink .kept .0)
+
+returns : tie.Need-returns
+returns c =
+    let q = c .before .before .before .before in
+    let p = q .before .before .before .before .before .before .before in
+    let d = p .before .before .before in
+    let r = d .before in
+    let l = r .before in
+    let n = l .before in
+    let b = n .before .before .before in
+    let u = b .before .before .before .before .before in
+    let a = u .before .before .before .before .before .before .args in
+    let z = u .before .before .before .before .before .before .pre in
+    removed-law _ _ _ (z .1) (z .2) (z .3) (u .unlink .ensures) (b .previous .ensures) (n .next .ensures) (scored-demoted (a .demote) (a .tolerance) (d .demoted-if .ensures) (l .score-of .ensures)) (r .score-of2 .ensures)
+    (p .put .ensures) (q .put2 .ensures)
+
+pub remove-spec : {M : Type 1} → statement M
+remove-spec =
+    tie.close
+    (tie.spec
+    unlink-requires
+    cast-previous
+    previous-requires
+    cast-next
+    next-requires
+    score-of-requires
+    score-of-requires-2
+    demoted-if-requires
+    put-requires
+    put-requires-2
+    same-length
+    same-length-2
+    returns)

@@ -1,0 +1,4 @@
+pub mod Plot
+pub mod Queue
+pub mod State
+pub mod Plain
