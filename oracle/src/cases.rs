@@ -167,9 +167,23 @@ fn tolerance(random: &mut Random, points: &[Pair]) -> f64 {
     let (a, b, c) = (draw(), draw(), draw());
     let area = ((b.0 - a.0) * (c.1 - a.1) - (c.0 - a.0) * (b.1 - a.1)).abs() / 2.0;
     match random.below(4) {
-        0 => area.next_up(),
-        1 => area.next_down(),
+        0 => next_up(area),
+        1 => next_down(area),
         _ => area,
+    }
+}
+
+/// The next f64 above one that is not negative. (`f64::next_up` needs a newer Rust.)
+pub fn next_up(value: f64) -> f64 {
+    f64::from_bits(value.to_bits() + 1)
+}
+
+/// The next f64 below one that is not negative.
+pub fn next_down(value: f64) -> f64 {
+    if value == 0.0 {
+        -f64::from_bits(1)
+    } else {
+        f64::from_bits(value.to_bits() - 1)
     }
 }
 

@@ -268,7 +268,7 @@ pub fn index_rule(points: &[Place], tolerance: Tolerance) -> Run {
     let mut kept: Vec<usize> = (0..points.len()).collect();
     while let Some((at, doubled)) = plain_step(points, &kept, tolerance) {
         let tied = least_candidates(points, &kept, &BTreeSet::new());
-        run.had_tie |= tied.is_some_and(|(_, positions)| positions.len() > 1);
+        run.had_tie |= matches!(tied, Some((_, positions)) if positions.len() > 1);
         run.removals.push(Removal {
             index: kept.remove(at),
             area: Area::Doubled(doubled),

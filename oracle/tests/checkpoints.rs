@@ -1,6 +1,7 @@
 //! Checkpoints P1 to P12 of document 01, of the model and of the given text with the tie order; then the reasons and
 //! the slots of the model.
 
+use oracle::cases::{next_down, next_up};
 use oracle::model::{
     self, places, Area, AreaSize, Reason, Run, Scratch, Slots, Step, Tolerance, FULL,
 };
@@ -152,8 +153,8 @@ fn the_tolerance_is_read_exactly() {
     assert!(!is_exceeded(f64::MAX, 1 << 50));
     for doubled in [1_i128, 3, 57, 1337, (1 << 50) - 1, 1 << 50] {
         let area = doubled as f64 / 2.0;
-        assert!(!is_exceeded(area, doubled) && !is_exceeded(area.next_up(), doubled));
-        assert!(is_exceeded(area.next_down(), doubled));
+        assert!(!is_exceeded(area, doubled) && !is_exceeded(next_up(area), doubled));
+        assert!(is_exceeded(next_down(area), doubled));
     }
     // 668.6 is 5881067794648269 * 2^-43.
     assert_eq!(668.6, 5881067794648269.0 * 2_f64.powi(-43));
@@ -182,7 +183,10 @@ fn two_readings_of_meeting_agree_and_the_place_is_common() {
         let met = model::meeting_place(at[0], at[1], at[2], at[3]);
         let given = Line::new(point(0), point(1)).intersects(&Line::new(point(2), point(3)));
         assert_eq!(met.is_some(), given, "{p:?}");
-        let Some((s, t)) = met else { continue };
+        let (s, t) = match met {
+            Some(found) => found,
+            None => continue,
+        };
         assert!(0 <= s.over && s.over <= s.under && 0 <= t.over && t.over <= t.under);
         for axis in [|place: model::Place| place.x, |place: model::Place| place.y] {
             let [a, b, c, d] = [0, 1, 2, 3].map(|i: usize| axis(at[i]));

@@ -38,8 +38,9 @@ fn the_examples_are_those_of_the_given_text() {
     let mut found = Vec::new();
     let mut inside = false;
     for line in include_str!("../given/simplify_vw.rs").lines() {
-        let Some(comment) = line.trim().strip_prefix("///") else {
-            continue;
+        let comment = match line.trim().strip_prefix("///") {
+            Some(comment) => comment,
+            None => continue,
         };
         if comment == " ```" {
             inside = !inside;
