@@ -1,11 +1,14 @@
--- Lent coordinates as points: how many, and what stands at an index. Assumes nothing.
+-- Lent coordinates as points: how many, what stands at an index, and that they are where the layout of a scratch has them. Assumes nothing.
 use mathlib.Core.Path.{_≡_, refl, ap}
 use mathlib.Core.List.{List, [], _∷_}
 use Prim.Native.Nat.{ℕ, zero, suc, _<_}
 use native.Mathlib.Omega.{arith}
+use native.Mathlib.Nat.{zero-add}
 use lib.ListN.{length, getD}
 use lib.Ieee.{Float, nan}
 use Rattle.rule.specs.Grid.{points, at, pointOf}
+use Rattle.layout.specs.Layout.{scratchOf}
+use Rattle.layout.specs.Points.{PlacedIn}
 use Rattle.lent.specs.Fine.{Fine}
 
 count : (us vs : List Float) → length us ≡ length vs → length (points us vs) ≡ length us
@@ -27,3 +30,6 @@ module _ {us vs : List Float} (f : Fine us vs) where
 
   pub at-points : (i : ℕ) → i < length us → at (points us vs) i ≡ pointOf (getD us i nan) (getD vs i nan)
   at-points i h = stands us vs i (f .level) h
+
+  pub placed-points : PlacedIn us vs (scratchOf (length us)) (points us vs)
+  placed-points = record { on = λ i h. rw zero-add (f .on i h); is = λ i h. rw zero-add (at-points i h) }

@@ -1,5 +1,5 @@
 -- What it says of the input that no reason applies. Assumes nothing.
-use mathlib.Core.Path.{_≡_, refl}
+use mathlib.Core.Path.{_≡_, refl, sym, _∙_}
 use mathlib.Core.Bool.{Bool, true, false, _||_, cond, true≢false}
 use mathlib.Core.List.{List, [], _∷_, _++_}
 use mathlib.Core.Option.{Option, none, some}
@@ -9,10 +9,11 @@ use lib.Dec.{ltb, eqb}
 use lib.ListN.{length}
 use lib.Ieee.{Float}
 use borrow.Author.Tests.{eqb-true, ltb-false, not-false}
-use Rattle.rule.specs.Sizes.{mostPoints}
+use Rattle.rule.specs.Sizes.{mostPoints, scratchFloats, scratchWords}
 use Rattle.rule.specs.Grid.{isFinite}
-use Rattle.rule.specs.Reasons.{Row, firstOf, isSome, firstOffGrid, lengthsDiffer, tooManyPoints, someOffGrid, toleranceNotFinite, outputShort, lineRows, repeatReason}
-use Rattle.lent.specs.Fine.{Fine}
+use Rattle.rule.specs.Reasons.{Row, firstOf, isSome, firstOffGrid, lengthsDiffer, tooManyPoints, someOffGrid, toleranceNotFinite, outputShort, scratchShort, lineRows, repeatReason, thinReason}
+use Rattle.rule.specs.Whole.{Lent}
+use Rattle.lent.specs.Fine.{Fine, Ready}
 use Rattle.lent.proofs.Scan.{on-all}
 
 -- a row with a number was passed
@@ -52,6 +53,15 @@ module _ (us vs : List Float) (t : Float) (e : firstOf (lineRows us vs t) ≡ 0)
   pub line-then : (rs : List Row) → firstOf (lineRows us vs t ++ rs) ≡ firstOf rs
   line-then rs = rw (line-passed .0, line-passed .1, line-passed .2, line-passed .3)
 
+-- where there is no reason, there is none among the rows that come first
+first-none : (rs ss : List Row) → firstOf (rs ++ ss) ≡ 0 → firstOf rs ≡ 0
+first-none [] ss e = refl
+first-none (r ∷ rs) ss e = go (r .applies) e (first-none rs ss)
+  where
+    go : (b : Bool) → cond b (r .number) (firstOf (rs ++ ss)) ≡ 0 → (firstOf (rs ++ ss) ≡ 0 → firstOf rs ≡ 0) → cond b (r .number) (firstOf rs) ≡ 0
+    go true f h = f
+    go false f h = h f
+
 -- no reason of a call on repeated points
 module _ (us vs : List Float) (room : ℕ) (e : repeatReason us vs room ≡ 0) where
   repeat-passed : (lengthsDiffer us vs .applies ≡ false) × (tooManyPoints us .applies ≡ false) × (someOffGrid us vs .applies ≡ false)
@@ -78,3 +88,22 @@ room-for m n p q e = go (ltb m n) (ltb p q) refl refl e
     go false false f g e = (ltb-false m n f, ltb-false p q g)
     go false true f g e = absurd (true≢false e)
     go true b f g e = absurd (true≢false e)
+
+-- no reason of a call that thins a line
+pub thin-ready : (us vs : List Float) (t : Float) (m : Lent) → thinReason us vs t (length (m .out)) (length (m .floats)) (length (m .words)) ≡ 0 → Ready us vs t m
+unfolding thinReason
+thin-ready us vs t m e =
+    let n = length us in
+    let output = outputShort (length (m .out)) n in
+    let scratch = scratchShort (length (m .floats)) (length (m .words)) n in
+    let line = first-none (lineRows us vs t) (output ∷ scratch ∷ []) e in
+    let a = passed output 6 (scratch ∷ []) refl (sym (line-then us vs t line (output ∷ scratch ∷ [])) ∙ e) in
+    let b = passed scratch 7 [] refl (a .1) in
+    let short = room-for (length (m .floats)) (scratchFloats n) (length (m .words)) (scratchWords n) (b .0) in
+    record {
+      fine = line-fine us vs t line;
+      finite = line-finite us vs t line;
+      room = ltb-false (length (m .out)) n (a .0);
+      floats = short .0;
+      words = short .1;
+    }

@@ -1,10 +1,11 @@
 -- Zeros stored one after the other, in a list of anything. Assumes nothing.
 use mathlib.Core.Path.{_≡_, refl, ap, _∙_}
-use mathlib.Core.List.{List, [], _∷_}
+use mathlib.Core.List.{List, [], _∷_, _++_}
 use Prim.Native.Nat.{ℕ, zero, suc, _+_, _≤_, _<_}
 use native.Mathlib.Omega.{arith}
 use native.Mathlib.Numerals.{add-one}
-use lib.ListN.{length, set, length-set}
+use lib.ListN.{length, getD, set, drop, replicate, length-set, length-drop}
+use lib.Seq.{ext-getD, getD-drop}
 use Rattle.rule.specs.Area.{cleared}
 
 -- of the n places to be zeroed, those below i are, and the list that was l₀ is l
@@ -33,3 +34,11 @@ module _ {A : Type 0} {z : A} {n : ℕ} {l₀ : List A} where
 
   pub all-zero : {i : ℕ} {l : List A} → n ≤ i → Zeroed z n l₀ i l → l ≡ cleared z n l₀
   all-zero {i} {l} h w = let e : n ≡ i = omega arith in rw e (w .held)
+
+-- zeroing does not see what it zeroes
+pub cleared-same : {A : Type 0} (z d : A) (n : ℕ) (l l′ : List A) → length l′ ≡ length l → ((i : ℕ) → n ≤ i → getD l′ i d ≡ getD l i d) → cleared z n l′ ≡ cleared z n l
+unfolding cleared
+cleared-same {A} z d n l l′ e same = ap (λ (r : List A). replicate n z ++ r) (ext-getD d (drop n l′) (drop n l) level (λ i h. simp getD-drop (same (n + i) (omega arith))))
+  where
+    level : length (drop n l′) ≡ length (drop n l)
+    level = simp (length-drop, e)

@@ -1,12 +1,16 @@
-// Lent input: the reasons of a call in order, the tests behind them, one function a row of document 01's table, and zeroing.
+// Lent memory: the reasons of a call in order, the tests behind them, one function a row of document 01's table; zeroing, and listing all points.
 // Each test is exact for every input.
 ghost use mathlib.Core.Path.{_≡_};
 ghost use Prim.Native.Nat.{_≤_};
 ghost use lib.ListN.{length};
 ghost use Rattle.rule.specs.Answers.{ofOutcome};
+ghost use Rattle.rule.specs.Sizes.{mostPoints, scratchFloats, scratchWords};
+ghost use Rattle.rule.specs.Grid.{positive};
+ghost use Rattle.rule.specs.Plain.{indices};
 ghost use Rattle.rule.specs.Area.{area, zeroFloat, cleared};
 ghost use Rattle.rule.specs.Reasons.{lengthsDiffer, tooManyPoints, toleranceNotFinite, outputShort, scratchShort, areaShort, noSuchSlot};
-ghost use Rattle.rule.specs.Reasons.{firstOffGrid, firstOf, lineRows, repeatReason};
+ghost use Rattle.rule.specs.Reasons.{firstOffGrid, firstOf, lineRows, repeatReason, thinReason};
+ghost use Rattle.rule.specs.Whole.{over};
 ghost use Rattle.lent.specs.Found.{ofFound};
 ghost use Rattle.lent.specs.Verdict.{verdict};
 use rule::Line;
@@ -51,6 +55,24 @@ pub fn repeat_reason(x: &[f64], y: &[f64], room: usize) -> Outcome
     }
     if output_short(room, x.len()) {
         return Outcome::Refused(Reason::OutputShort);
+    }
+    Outcome::Done
+}
+
+// Of a call that thins a line, with an output of so many places and scratch: 1, 2, 4, 3, 7, 8.
+pub fn thin_reason(x: &[f64], y: &[f64], tolerance: f64, room: usize, floats: &[f64], words: &[u32]) -> Outcome
+    ensures { λ r. ⌜ ofOutcome r ≡ verdict (thinReason (now (x .entry)) (now (y .entry)) tolerance room (length (now (floats .entry))) (length (now (words .entry))))
+        (firstOffGrid (now (x .entry)) (now (y .entry))) ⌝ }
+{
+    if let Outcome::Refused(reason) = line_reason(x, y, tolerance) {
+        return Outcome::Refused(reason);
+    }
+    let points = x.len();
+    if output_short(room, points) {
+        return Outcome::Refused(Reason::OutputShort);
+    }
+    if scratch_short(floats, words, points) {
+        return Outcome::Refused(Reason::MemoryShort);
     }
     Outcome::Done
 }
@@ -102,6 +124,13 @@ pub fn tolerance_not_finite(tolerance: f64) -> bool
 {
     let d = tolerance - tolerance;
     !(d == 0.0)
+}
+
+// The tolerance is above zero.
+pub fn tolerance_positive(tolerance: f64) -> bool
+    ensures { λ r. ⌜ r ≡ positive tolerance ⌝ }
+{
+    tolerance > 0.0
 }
 
 // 7: an output of so many places, for so many.
@@ -157,5 +186,25 @@ pub fn zero_words(words: &mut [u32], n: usize)
 {
     for j in 0..n {
         words[j] = 0;
+    }
+}
+
+// Zeros in the scratch of so many points.
+pub fn zero_scratch(floats: &mut [f64], words: &mut [u32], points: usize)
+    requires { ⌜ (scratchFloats points ≤ length (now floats)) × (scratchWords points ≤ length (now words)) ⌝ }
+    ensures { λ _. ⌜ (now (floats .exit) ≡ cleared zeroFloat (scratchFloats points) (now (floats .entry)))
+        × (now (words .exit) ≡ cleared 0 (scratchWords points) (now (words .entry))) ⌝ }
+{
+    zero_floats(floats, Scratch::FLOATS * points);
+    zero_words(words, Scratch::WORDS * points);
+}
+
+// Lists n points from the start of out.
+pub fn list_all(out: &mut [u32], n: usize)
+    requires { ⌜ (n ≤ mostPoints) × (n ≤ length (now out)) ⌝ }
+    ensures { λ _. ⌜ now (out .exit) ≡ over (indices 0 n) (now (out .entry)) ⌝ }
+{
+    for k in 0..n {
+        out[k] = k as u32;
     }
 }

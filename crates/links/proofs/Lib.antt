@@ -1,7 +1,7 @@
+-- The laws that the crates above cite.
 pub mod Neighbours
 pub mod Marks
 pub mod Ring
 pub mod Memory
 pub mod Rings
-pub mod Linking
 pub mod Listing

@@ -72,39 +72,40 @@ only-then f g = record {
 
 -- ---- a point kept between two
 
-module _ (ws : List ℕ) (m : Layout) (i p q : ℕ) (room : HasLinks m ws) (l : i < m .points) where
-  pub linked-previous : previousAt (linkedAs ws m i p q) m i ≡ p
-  linked-previous =
-      three-first ws (m .links + i) (m .links + m .points + i) (m .links + 2 * m .points + i) p q 0
-      (omega arith) (omega arith) (omega arith) (λ e. omega arith) (λ e. omega arith) (λ e. omega arith)
-
-  pub linked-next : nextAt (linkedAs ws m i p q) m i ≡ q
-  linked-next =
-      three-second ws (m .links + i) (m .links + m .points + i) (m .links + 2 * m .points + i) p q 0
-      (omega arith) (omega arith) (omega arith) (λ e. omega arith) (λ e. omega arith) (λ e. omega arith)
-
-  pub linked-mark : markAt (linkedAs ws m i p q) m i ≡ 0
-  linked-mark =
-      three-third ws (m .links + i) (m .links + m .points + i) (m .links + 2 * m .points + i) p q 0
-      (omega arith) (omega arith) (omega arith) (λ e. omega arith) (λ e. omega arith) (λ e. omega arith)
-
+module _ (ws : List ℕ) (m : Layout) (i p q : ℕ) where
   linked-at : (j : ℕ) → (j ≡ m .links + i → ⊥) → (j ≡ m .links + m .points + i → ⊥) → (j ≡ m .links + 2 * m .points + i → ⊥)
       → getD (linkedAs ws m i p q) j 0 ≡ getD ws j 0
   linked-at = three-other ws (m .links + i) (m .links + m .points + i) (m .links + 2 * m .points + i) p q 0
 
-  pub linked-others : (k : ℕ) → k < m .points → (k ≡ i → ⊥) → SameLinks ws m (linkedAs ws m i p q) k
-  linked-others k g ne = record {
+  pub linked-others : (k : ℕ) → k < m .points → i < m .points → (k ≡ i → ⊥) → SameLinks ws m (linkedAs ws m i p q) k
+  linked-others k g l ne = record {
     previous = linked-at (m .links + k) (λ e. ne (omega arith)) (λ e. omega arith) (λ e. omega arith);
     next = linked-at (m .links + m .points + k) (λ e. omega arith) (λ e. ne (omega arith)) (λ e. omega arith);
     mark = linked-at (m .links + 2 * m .points + k) (λ e. omega arith) (λ e. omega arith) (λ e. ne (omega arith));
   }
 
-  pub linked-only : (lo hi : ℕ) → lo ≤ i → i < hi → OnlyLinks ws m lo hi (linkedAs ws m i p q)
-  linked-only lo hi a b = record {
-    others = λ k g w. linked-others k g (λ e. ⊎-elim (λ h. omega arith) (λ h. omega arith) w);
+  pub linked-only : (lo hi : ℕ) → lo ≤ i → i < hi → hi ≤ m .points → OnlyLinks ws m lo hi (linkedAs ws m i p q)
+  linked-only lo hi a b to = record {
+    others = λ k g w. linked-others k g (omega arith) (λ e. ⊎-elim (λ h. omega arith) (λ h. omega arith) w);
     before = λ j h. linked-at j (λ e. omega arith) (λ e. omega arith) (λ e. omega arith);
     after = λ j h. linked-at j (λ e. omega arith) (λ e. omega arith) (λ e. omega arith);
   }
+
+  module _ (room : HasLinks m ws) (l : i < m .points) where
+    pub linked-previous : previousAt (linkedAs ws m i p q) m i ≡ p
+    linked-previous =
+        three-first ws (m .links + i) (m .links + m .points + i) (m .links + 2 * m .points + i) p q 0
+        (omega arith) (omega arith) (omega arith) (λ e. omega arith) (λ e. omega arith) (λ e. omega arith)
+
+    pub linked-next : nextAt (linkedAs ws m i p q) m i ≡ q
+    linked-next =
+        three-second ws (m .links + i) (m .links + m .points + i) (m .links + 2 * m .points + i) p q 0
+        (omega arith) (omega arith) (omega arith) (λ e. omega arith) (λ e. omega arith) (λ e. omega arith)
+
+    pub linked-mark : markAt (linkedAs ws m i p q) m i ≡ 0
+    linked-mark =
+        three-third ws (m .links + i) (m .links + m .points + i) (m .links + 2 * m .points + i) p q 0
+        (omega arith) (omega arith) (omega arith) (λ e. omega arith) (λ e. omega arith) (λ e. omega arith)
 
 -- ---- s's point taken out
 

@@ -6,13 +6,13 @@ use Prim.Native.Nat.{ℕ, zero, suc, _+_, _-_, _≤_, _<_}
 use native.Mathlib.Omega.{arith}
 use native.Mathlib.Nat.{zero-add, add-zero}
 use native.Mathlib.Numerals.{add-one}
-use lib.ListN.{length, getD, drop, set, drop-of-length-le, length-append}
-use lib.Seq.{drop-cons, set-append-seam, append-snoc}
+use lib.ListN.{length, drop, set, drop-of-length-le, length-append}
+use lib.Seq.{drop-cons}
 use lib.IntN.{pos}
 use Rattle.rule.specs.Grid.{Point, at}
 use Rattle.rule.specs.Segment.{same}
 use Rattle.rule.specs.Repeat.{changes, consecutive, isIn, firsts, anywhere}
-use Rattle.rule.specs.Whole.{over}
+use Rattle.lent.proofs.Over.{over-more}
 use Rattle.remove_repeated_points.specs.Back.{among, isNew, news, allNew, Listed}
 use Rattle.remove_repeated_points.proofs.Same.{same-sym}
 
@@ -93,13 +93,6 @@ anywhere-is back ps h = sym (appearances back (length ps) 0 ps h (omega arith))
 
 -- ---- the loop
 
--- a list over what stood there, and one more index stored
-store : (ks out : List ℕ) (i : ℕ) → length ks < length out → set (over ks out) (length ks) i ≡ over (ks ++ i ∷ []) out
-store ks out i h =
-    let n : length (ks ++ i ∷ []) ≡ suc (length ks) = omega (arith, length-append ks (i ∷ [])) in
-    let past = drop (suc (length ks)) out in
-    rw (drop-cons out (length ks) 0 h, set-append-seam ks (getD out (length ks) 0) past i, n) (sym (append-snoc ks i past))
-
 module _ {back : ℕ} {ps : List Point} {out₀ : List ℕ} where
   pub none-yet : Listed back ps 0 out₀ 0 out₀
   unfolding news
@@ -112,7 +105,7 @@ module _ {back : ℕ} {ps : List Point} {out₀ : List ℕ} where
       let ks = news back ps i in
       record {
         count = rw (add-one i, e) (omega (arith, length-append ks (i ∷ []), w .count));
-        list = rw (add-one i, e, w .list, w .count) (store ks out₀ i (omega (arith, w .count)));
+        list = rw (add-one i, e, w .list, w .count) (over-more ks out₀ i (omega (arith, w .count)));
       }
 
   pub listed-old : {i kept : ℕ} {out : List ℕ} → Listed back ps i out₀ kept out → isNew back ps i ≡ false → Listed back ps (i + 1) out₀ kept out

@@ -1,7 +1,6 @@
+-- The laws that the crates above cite: of a removal and of a step, and what they rest on.
 pub mod Candidates
 pub mod Scoring
 pub mod Queue
-pub mod Picking
 pub mod Removing
-pub mod Seeding
 pub mod Stepping

@@ -168,7 +168,9 @@ module _ (v : View) (φ : Faithful (v .scale)) {fs : List Float} (ws : List ℕ)
   root-triple = alive-triple h (q .each 0 p .low) (q .each 0 p .high) a
 
   pub root-least : least (v .score) (v .kept) ≡ some (candidateOf v top)
-  root-least = least-is (v .score) (v .kept) (candidateOf v top) (ring-up h) (triple-mid (v .score) 0 (v .kept) (top .left) (top .current) (top .right) (ring-up h) root-triple) none-before
+  root-least =
+      least-is (v .score) (v .kept) (candidateOf v top) (ring-up h)
+      (triple-mid (v .score) 0 (v .kept) (top .left) (top .current) (top .right) (ring-up h) root-triple) none-before
     where
       none-before : First (v .score) (v .kept) (candidateOf v top)
       none-before d g =

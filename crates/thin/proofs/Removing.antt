@@ -122,7 +122,8 @@ old-entry {v} {s} {ps} {g} u tr su e en = record {
 module _ (s : VScore) (demote : Bool) (t : Float) {us vs : List Float} {fs : List Float} {ws : List ℕ} {m : Layout} {len : ℕ}
     (room : Room m fs ws) (le : len ≤ m .capacity) (points : Points (m .points) (s .left) (s .current) (s .right))
     {ws₁ : List ℕ} (unlinks : ws₁ ≡ unlinked ws m s) {a b : ℕ} (before : a ≡ previousAt ws₁ m (s .left)) (after : b ≡ nextAt ws₁ m (s .right))
-    {left right : Scored} (scores-left : ScoredAs us vs m a (s .left) (s .right) (priced demote t) left) (scores-right : ScoredAs us vs m (s .left) (s .right) b half right)
+    {left right : Scored} (scores-left : ScoredAs us vs m a (s .left) (s .right) (priced demote t) left)
+    (scores-right : ScoredAs us vs m (s .left) (s .right) b half right)
     {fs₂ : List Float} {ws₂ : List ℕ} {n₂ : ℕ} (puts-left : PutIs fs ws₁ m len fs₂ ws₂ n₂ left)
     {fs₃ : List Float} {ws₃ : List ℕ} {n₃ : ℕ} (puts-right : PutIs fs₂ ws₂ m n₂ fs₃ ws₃ n₃ right) where
   only : OnlyLinks ws m 0 (m .points) ws₁
@@ -141,7 +142,8 @@ module _ (s : VScore) (demote : Bool) (t : Float) {us vs : List Float} {fs : Lis
   same : (i : ℕ) → SameLinks ws₁ m ws₃ i
   same = same-from (λ j h. framed .after j (omega (arith, room .scores)))
 
-  module _ (v : View) (ps : List Point) (g : ℕ → ℕ → ℕ → ℕ) (φ : Faithful (v .scale)) (placed : PlacedIn us vs m ps) (ring : RingOf v ws m) (pick : Pick v fs ws m len t s)
+  module _ (v : View) (ps : List Point) (g : ℕ → ℕ → ℕ → ℕ) (φ : Faithful (v .scale)) (placed : PlacedIn us vs m ps) (ring : RingOf v ws m)
+      (pick : Pick v fs ws m len t s)
       (few : suc len + 2 * (length (v .kept) - 2) ≤ most m) (fits : most m ≤ m .capacity) (suits : Suits v s ps g demote t) where
     abbrev rest : List ℕ
     rest = without (s .current) (v .kept)

@@ -55,7 +55,8 @@ module _ {us vs : List Float} {m : Layout} {a b c : ℕ} where
   demoted-as true t (scored p s) = scored p (record { left = s .left; current = s .current; right = s .right; area = λ ps q. refl })
   demoted-as true t (missing n) = missing n
 
-  pub scored-demoted : (demote : Bool) (t : Float) {r r′ : Scored} → r′ ≡ demotedIf demote t r → ScoredAs us vs m a b c half r → ScoredAs us vs m a b c (priced demote t) r′
+  pub scored-demoted : (demote : Bool) (t : Float) {r r′ : Scored} → r′ ≡ demotedIf demote t r → ScoredAs us vs m a b c half r
+      → ScoredAs us vs m a b c (priced demote t) r′
   scored-demoted demote t e h = subst (ScoredAs us vs m a b c (priced demote t)) (sym e) (demoted-as demote t h)
 
 -- ---- coordinates that stand past the heap stay

@@ -4,10 +4,12 @@ use mathlib.Core.Bool.{Bool, true, false, not, cond}
 use mathlib.Core.List.{List}
 use mathlib.Core.Option.{Option, none, some}
 use Prim.Native.Nat.{ℕ, _≤_}
+use native.Mathlib.Nat.{sub-zero}
 use native.Mathlib.Omega.{arith}
+use lib.ListN.{length}
 use lib.Ieee.{Float, lt}
 use Rattle.rule.specs.Grid.{Point, within, isFinite, positive}
-use Rattle.rule.specs.Plain.{Candidate, least, areaAt, atMost, next}
+use Rattle.rule.specs.Plain.{Candidate, least, indices, all, areaAt, atMost, next}
 use Rattle.rule.specs.Preserve.{scoreWithin}
 use Rattle.grid.proofs.Halves.{above-is}
 use Rattle.layout.specs.declared.Layout.{Layout}
@@ -16,14 +18,16 @@ use Rattle.vscore.specs.declared.VScore.{VScore}
 use Rattle.vscore.specs.Scale.{Scale, halves, demotable}
 use Rattle.vscore.proofs.Scales.{halves-faithful, above-demotable}
 use Rattle.links.specs.Words.{unlinked, SameLinks, OnlyLinks}
+use Rattle.links.specs.Calls.{Joined}
 use Rattle.links.proofs.Memory.{same-from, ring-same, unlinked-only}
 use Rattle.layout.specs.Points.{PlacedIn}
 use Rattle.thin.specs.Queue.{chosen, candidateOf, PickDone}
-use Rattle.thin.specs.State.{Suits, Removed}
-use Rattle.thin.specs.Plain.{line, StepDone}
+use Rattle.thin.specs.State.{most, Suits, Removed, Seeded}
+use Rattle.thin.specs.Plain.{line, LineRep, StepDone}
 use Rattle.thin.specs.declared.Picked.{Picked}
 use Rattle.thin.specs.declared.Picked.the-variants.{Found, Nothing}
 use Rattle.thin.specs.declared.Stepped.the-variants as stepped
+use Rattle.thin.proofs.Scoring.{placed-same}
 
 -- ---- what is chosen
 
@@ -89,7 +93,8 @@ module _ (us vs : List Float) {fs : List Float} {ws : List ℕ} {m : Layout} {le
   }
 
   -- the coordinates that the removal read are those of the points still
-  pub step-removed : {s : VScore} {k : ℕ} → PickDone fs ws m len t fs₁ ws₁ (Found s k) → {us₁ vs₁ : List Float} → ((ps : List Point) → PlacedIn us vs m ps → PlacedIn us₁ vs₁ m ps)
+  pub step-removed : {s : VScore} {k : ℕ} → PickDone fs ws m len t fs₁ ws₁ (Found s k)
+      → {us₁ vs₁ : List Float} → ((ps : List Point) → PlacedIn us vs m ps → PlacedIn us₁ vs₁ m ps)
       → {fs₂ : List Float} {ws₂ : List ℕ} {n : ℕ} → Removed us₁ vs₁ fs₁ ws₁ m k s false t fs₂ ws₂ n
       → StepDone us vs fs ws m len t fs₂ ws₂ (stepped.Removed (s .current) (s .area) n)
   step-removed {s} {k} p stay {n = n} rm = record {
@@ -113,3 +118,21 @@ module _ (us vs : List Float) {fs : List Float} {ws : List ℕ} {m : Layout} {le
       only =
           let l = p .picked .1 in
           unlinked-only ws₁ m s 0 (m .points) (omega arith) (omega arith, l .left) (omega arith, l .current) (omega arith, l .right)
+
+-- in a slot: the coordinates stand in the same floats, past the heap
+pub step-own : {fs : List Float} {ws : List ℕ} {m : Layout} {len : ℕ} {t : Float} → Room m fs ws → len ≤ m .capacity → m .capacity ≤ m .x → m .capacity ≤ m .y
+    → {fs₁ : List Float} {ws₁ : List ℕ} {s : VScore} {k : ℕ} → PickDone fs ws m len t fs₁ ws₁ (Found s k)
+    → {fs₂ : List Float} {ws₂ : List ℕ} {n : ℕ} → Removed fs₁ fs₁ fs₁ ws₁ m k s false t fs₂ ws₂ n
+    → StepDone fs fs fs ws m len t fs₂ ws₂ (stepped.Removed (s .current) (s .area) n)
+step-own {fs} {ws} {m} room le hx hy {fs₁} p rm =
+    step-removed fs fs room le p (λ ps. placed-same m fs fs₁ hx hy (λ i h. p .framed .floats i (omega arith))) rm
+
+-- ---- the beginning of a line: linked, and seeded
+
+pub line-begins : {us vs : List Float} {fs : List Float} {ws₀ ws : List ℕ} {m : Layout} {fs′ : List Float} {ws′ : List ℕ} {r : ℕ} (ps : List Point)
+    → Joined ws₀ m 0 (m .points) ws → Seeded us vs fs ws m 0 (m .points) fs′ ws′ r → PlacedIn us vs m ps → length ps ≡ m .points → most m ≤ m .capacity
+    → LineRep ps (all ps) fs′ ws′ m r
+unfolding all
+line-begins {m = m} {fs′ = fs′} {ws′ = ws′} {r = r} ps joins seeds pl e fits =
+    subst (λ (n : ℕ). LineRep ps (indices 0 n) fs′ ws′ m r) (sub-zero (m .points) ∙ sym e)
+    (seeds .rep halves (areaAt ps) ps halves-faithful pl (λ a b c. refl) (joins .ring) fits)

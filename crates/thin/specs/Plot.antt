@@ -1,4 +1,4 @@
--- The score of three points, by their coordinates in lent memory. Assumes nothing.
+-- Points by their coordinates in lent memory, and the score of three of them. Assumes nothing.
 use mathlib.Core.Path.{_≡_}
 use mathlib.Core.Bool.{Bool, true, false, cond}
 use mathlib.Core.List.{List}

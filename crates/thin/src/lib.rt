@@ -88,7 +88,8 @@ pub fn remove(
     tolerance: f64,
 ) -> usize
     requires { ⌜ HasPoints m (now x) (now y) × Room m (now floats) (now words) × (len ≤ m .capacity) × Points (m .points) (s .left) (s .current) (s .right) ⌝ }
-    ensures { λ r. ⌜ Removed (now (x .entry)) (now (y .entry)) (now (floats .entry)) (now (words .entry)) m len s demote tolerance (now (floats .exit)) (now (words .exit)) r ⌝ }
+    ensures { λ r. ⌜ Removed (now (x .entry)) (now (y .entry)) (now (floats .entry)) (now (words .entry)) m len s demote tolerance
+        (now (floats .exit)) (now (words .exit)) r ⌝ }
 {
     links::unlink(words, m, s);
     let before = links::previous(words, m, s.left as usize);
@@ -123,7 +124,7 @@ pub fn seed(
     len
 }
 
-// The score of a, b and c, if they are points. This alone reads coordinates.
+// The score of a, b and c, if they are points. Nothing else here reads coordinates.
 pub fn score_of(x: &[f64], y: &[f64], m: Layout, a: u32, b: u32, c: u32) -> Scored
     requires { ⌜ HasPoints m (now x) (now y) ⌝ }
     ensures { λ r. ⌜ ScoredAs (now (x .entry)) (now (y .entry)) m a b c half r ⌝ }

@@ -2,9 +2,10 @@
 use Prim.Native.Nat.{_-_}
 use native.Mathlib.Omega.{arith}
 use borrow.Author.Needs.{needs}
-use Rattle.links.proofs.Linking.{Linking, linking-start, linking-more, linking-end, back-small, ahead-small}
+use Rattle.links.proofs.link.Proof.Turns.{Linking, linking-start, linking-more, linking-end, back-small, ahead-small}
 use Rattle.links.proofs.link.Statement.{statement}
 use Rattle.links.proofs.link.Tie as tie
+mod Turns
 
 abbrev Inv-loop : tie.InvT-loop
 Inv-loop words₀ m lo hi i₀ words i = Linking words₀ m lo hi words i
@@ -13,7 +14,7 @@ abbrev μ-loop : tie.MeasureT-loop
 μ-loop words₀ m lo hi i₀ words i = hi - i
 
 loop-holds : tie.Need-loop-holds Inv-loop μ-loop
-loop-holds c = linking-start _ _ _ _ (c .before .pre .2) (c .before .pre .3)
+loop-holds c = let z = c .before .pre in linking-start (z .0) (z .2) (z .3)
 
 point-before-requires : tie.Need-point-before-requires Inv-loop μ-loop
 point-before-requires c κs = search needs
@@ -49,18 +50,14 @@ loop-again c =
     let j = c .before .before in
     let a = j .before .before in
     let b = a .before in
-    let l = b .before .before in
-    let z = l .before .before .pre in
-    linking-more _ _ _ _ (z .2) (z .3) _ _ (l .loop .inv) (z .0) (b .before .loop-test .taken) (b .point-before .ensures) (a .point-after .ensures) (j .join .ensures)
+    let l = b .before in
+    linking-more (l .before .loop .inv) (l .loop-test .taken) (b .point-before .ensures) (a .point-after .ensures) (j .join .ensures)
 
 same-length : tie.Need-same-length Inv-loop μ-loop
 same-length c = c .before .loop .inv .size
 
 returns : tie.Need-returns Inv-loop μ-loop
-returns c =
-    let l = c .before in
-    let z = l .before .before .pre in
-    linking-end _ _ _ _ (z .2) (z .3) _ _ (l .loop .inv) (c .loop-test .left)
+returns c = linking-end (c .before .loop .inv) (c .loop-test .left)
 
 pub link-spec : {M : Type 1} → statement M
 link-spec =

@@ -18,7 +18,9 @@ demoted-requires : tie.Need-demoted-requires
 demoted-requires c κs = search needs
 
 returns-2 : tie.Need-returns-2
-returns-2 c = let a = c .before .before .before .args in demoted-none (a .demote) (a .tolerance) (a .scored) (not-false _ (c .before .before .if1 .left)) (c .enum-told .given .1)
+returns-2 c =
+    let a = c .before .before .before .args in
+    demoted-none (a .demote) (a .tolerance) (a .scored) (not-false _ (c .before .before .if1 .left)) (c .enum-told .given .1)
 
 returns-3 : tie.Need-returns-3
 returns-3 c =

@@ -1,9 +1,10 @@
 -- `thin::pick` meets its contract. Assumes nothing.
 use native.Mathlib.Omega.{arith}
 use borrow.Author.Needs.{needs}
-use Rattle.thin.proofs.Picking.{Picking, pick-start, pick-turn, pick-empty, pick-above, pick-found, pick-holds, pick-links}
+use Rattle.thin.proofs.pick.Proof.Turns.{Picking, pick-start, pick-turn, pick-empty, pick-above, pick-found, pick-holds, pick-links}
 use Rattle.thin.proofs.pick.Statement.{statement}
 use Rattle.thin.proofs.pick.Tie as tie
+mod Turns
 
 abbrev Inv-loop : tie.InvT-loop
 Inv-loop floats₀ words₀ m len tolerance k₀ floats words k = Picking floats₀ words₀ m len floats words k
@@ -12,19 +13,13 @@ abbrev μ-loop : tie.MeasureT-loop
 μ-loop floats₀ words₀ m len tolerance k₀ floats words k = k
 
 loop-holds : tie.Need-loop-holds Inv-loop μ-loop
-loop-holds c = pick-start _ _ _ _
+loop-holds c = let z = c .before .before .pre in pick-start (z .0) (z .1)
 
 load-requires : tie.Need-load-requires Inv-loop μ-loop
-load-requires c κs =
-    let l = c .before .before .before in
-    let z = l .before .before .before .pre in
-    pick-holds _ _ _ _ (z .0) (z .1) _ _ _ (l .loop .inv) 0 (c .before .before .loop-test .taken)
+load-requires c κs = let l = c .before .before in pick-holds (l .before .loop .inv) 0 (l .loop-test .taken)
 
 live-requires : tie.Need-live-requires Inv-loop μ-loop
-live-requires c κs =
-    let l = c .before .before .before .before .before in
-    let z = l .before .before .before .pre in
-    pick-links _ _ _ _ (z .0) (z .1) _ _ _ (l .loop .inv)
+live-requires c κs = pick-links (c .before .before .before .before .before .loop .inv)
 
 above-requires : tie.Need-above-requires Inv-loop μ-loop
 above-requires c κs = search needs
@@ -38,47 +33,47 @@ same-length-2 c = c .before .before .before .before .before .before .before .bef
 returns : tie.Need-returns Inv-loop μ-loop
 returns c =
     let v = c .before .before .before in
-    let l = v .before .before .before .before .before .before in
-    let z = l .before .before .before .pre in
-    pick-above _ _ _ _ (z .0) (z .1) _ _ _ (l .loop .inv) (v .before .before .before .before .before .loop-test .taken) (v .before .before .load .ensures) (v .live .ensures) (c .before .before .if1 .taken) _ (c .before .above .ensures) (c .if2 .taken)
+    let l = v .before .before .before .before .before in
+    pick-above (l .before .loop .inv) (l .loop-test .taken) (v .before .before .load .ensures) (v .live .ensures)
+    (c .before .before .if1 .taken) _ (c .before .above .ensures) (c .if2 .taken)
 
 sub-pop : tie.Need-sub-pop Inv-loop μ-loop
 sub-pop c = omega (arith, c .before .before .before .before .before .before .before .before .before .before .loop-test .taken)
 
 pop-requires : tie.Need-pop-requires Inv-loop μ-loop
 pop-requires c κs =
-    let v = c .before .before .before .before .before in
-    let l = v .before .before .before .before .before .before in
-    let z = l .before .before .before .pre in
-    pick-holds _ _ _ _ (z .0) (z .1) _ _ _ (l .loop .inv) _ (omega (arith, v .before .before .before .before .before .loop-test .taken))
+    let l = c .before .before .before .before .before .before .before .before .before .before in
+    pick-holds (l .before .loop .inv) _ (omega (arith, l .loop-test .taken))
 
 sub-t22 : tie.Need-sub-t22 Inv-loop μ-loop
 sub-t22 c = omega (arith, c .before .before .before .before .before .before .before .before .before .before .before .before .before .before .before .loop-test .taken)
 
 same-length-3 : tie.Need-same-length-3 Inv-loop μ-loop
-same-length-3 c = omega (arith, c .before .before .before .before .pop .kept .0, c .before .before .before .before .before .before .before .before .before .before .before .before .before .before .before .before .loop .inv .floats)
+same-length-3 c =
+    let p = c .before .before .before .before in
+    omega (arith, p .pop .kept .0, p .before .before .before .before .before .before .before .before .before .before .before .before .loop .inv .floats)
 
 same-length-4 : tie.Need-same-length-4 Inv-loop μ-loop
-same-length-4 c = omega (arith, c .before .before .before .before .pop .kept .1 .0, c .before .before .before .before .before .before .before .before .before .before .before .before .before .before .before .before .loop .inv .words)
+same-length-4 c =
+    let p = c .before .before .before .before in
+    omega (arith, p .pop .kept .1 .0, p .before .before .before .before .before .before .before .before .before .before .before .before .loop .inv .words)
 
 returns-2 : tie.Need-returns-2 Inv-loop μ-loop
 returns-2 c =
     let p = c .before .before .before .before in
     let d = p .before .before .before in
     let v = d .before .before .before in
-    let l = v .before .before .before .before .before .before in
-    let z = l .before .before .before .pre in
-    pick-found _ _ _ _ (z .0) (z .1) _ _ _ (l .loop .inv) (v .before .before .before .before .before .loop-test .taken) (v .before .before .load .ensures) (v .live .ensures) (d .before .before .if1 .taken) _ (d .before .above .ensures) (d .if2 .left) (p .pop .ensures)
+    let l = v .before .before .before .before .before in
+    pick-found (l .before .loop .inv) (l .loop-test .taken) (v .before .before .load .ensures) (v .live .ensures)
+    (d .before .before .if1 .taken) _ (d .before .above .ensures) (d .if2 .left) (p .pop .ensures)
 
 sub-pop-2 : tie.Need-sub-pop-2 Inv-loop μ-loop
 sub-pop-2 c = omega (arith, c .before .before .before .before .before .before .before .before .loop-test .taken)
 
 pop-requires-2 : tie.Need-pop-requires-2 Inv-loop μ-loop
 pop-requires-2 c κs =
-    let v = c .before .before .before in
-    let l = v .before .before .before .before .before .before in
-    let z = l .before .before .before .pre in
-    pick-holds _ _ _ _ (z .0) (z .1) _ _ _ (l .loop .inv) _ (omega (arith, v .before .before .before .before .before .loop-test .taken))
+    let l = c .before .before .before .before .before .before .before .before in
+    pick-holds (l .before .loop .inv) _ (omega (arith, l .loop-test .taken))
 
 sub-k : tie.Need-sub-k Inv-loop μ-loop
 sub-k c = omega (arith, c .before .before .before .before .before .before .before .before .before .before .before .before .before .loop-test .taken)
@@ -91,9 +86,9 @@ loop-again c =
     let p = c .before .before .before .before in
     let e = p .before .before .before in
     let v = e .before in
-    let l = v .before .before .before .before .before .before in
-    let z = l .before .before .before .pre in
-    pick-turn _ _ _ _ (z .0) (z .1) _ _ _ (l .loop .inv) (v .before .before .before .before .before .loop-test .taken) (v .before .before .load .ensures) (v .live .ensures) (e .if1 .left) (p .pop2 .ensures) (p .pop2 .kept .0) (p .pop2 .kept .1 .0)
+    let l = v .before .before .before .before .before in
+    pick-turn (l .before .loop .inv) (l .loop-test .taken) (v .before .before .load .ensures) (v .live .ensures)
+    (p .pop2 .ensures) (e .if1 .left) (p .pop2 .kept .0) (p .pop2 .kept .1 .0)
 
 same-length-5 : tie.Need-same-length-5 Inv-loop μ-loop
 same-length-5 c = c .before .loop .inv .floats
@@ -102,10 +97,7 @@ same-length-6 : tie.Need-same-length-6 Inv-loop μ-loop
 same-length-6 c = c .before .loop .inv .words
 
 returns-3 : tie.Need-returns-3 Inv-loop μ-loop
-returns-3 c =
-    let l = c .before in
-    let z = l .before .before .before .pre in
-    pick-empty _ _ _ _ (z .0) (z .1) _ _ _ (l .loop .inv) _ (c .loop-test .left)
+returns-3 c = pick-empty (c .before .loop .inv) _ (c .loop-test .left)
 
 pub pick-spec : {M : Type 1} → statement M
 pick-spec =

@@ -64,8 +64,8 @@ returns c =
     let u = b .before .before .before .before .before in
     let a = u .before .before .before .before .before .before .args in
     let z = u .before .before .before .before .before .before .pre in
-    removed-law _ _ _ (z .1) (z .2) (z .3) (u .unlink .ensures) (b .previous .ensures) (n .next .ensures) (scored-demoted (a .demote) (a .tolerance) (d .demoted-if .ensures) (l .score-of .ensures)) (r .score-of2 .ensures)
-    (p .put .ensures) (q .put2 .ensures)
+    removed-law _ _ _ (z .1) (z .2) (z .3) (u .unlink .ensures) (b .previous .ensures) (n .next .ensures)
+    (scored-demoted (a .demote) (a .tolerance) (d .demoted-if .ensures) (l .score-of .ensures)) (r .score-of2 .ensures) (p .put .ensures) (q .put2 .ensures)
 
 pub remove-spec : {M : Type 1} → statement M
 remove-spec =

@@ -78,7 +78,9 @@ new-requires c κs = search needs
 returns-4 : tie.Need-returns-4
 returns-4 c =
     let e = c .before .before .before .before .before .before .before .before in
-    score-made (c .new .ensures) (record { left = omega (arith, e .before .before .if1 .left); current = omega (arith, e .before .if2 .left); right = omega (arith, e .if3 .left) }) (c .before .area .ensures)
+    score-made (c .new .ensures)
+    (record { left = omega (arith, e .before .before .if1 .left); current = omega (arith, e .before .if2 .left); right = omega (arith, e .if3 .left) })
+    (c .before .area .ensures)
 
 pub score-of-spec : {M : Type 1} → statement M
 score-of-spec =

@@ -1,0 +1,2 @@
+pub mod Against
+pub mod Crossing
