@@ -36,14 +36,14 @@ none-listed = record { below = omega arith; level = refl; held = refl }
 
 pub one-listed : {n i : ℕ} {out out′ : List ℕ} → n ≤ length out → i < n → AllListed n out i out′ → AllListed n out (i + 1) (set out′ i i)
 one-listed {n} {i} {out} {out′} h l w = record {
-    below = omega arith;
-    level = length-set out′ i i ∙ w .level;
-    held =
-        let e = length-indices 0 i in
-        let z : 0 + i ≡ i = omega arith in
-        rw (w .held, add-one, one-index 0 i, z)
-        (subst (λ (k : ℕ). set (over (indices 0 i) out) k i ≡ over (indices 0 i ++ i ∷ []) out) e (over-more (indices 0 i) out i (omega arith)));
-  }
+  below = omega arith;
+  level = length-set out′ i i ∙ w .level;
+  held =
+      let e = length-indices 0 i in
+      let z : 0 + i ≡ i = omega arith in
+      rw (w .held, add-one, one-index 0 i, z)
+      (subst (λ (k : ℕ). set (over (indices 0 i) out) k i ≡ over (indices 0 i ++ i ∷ []) out) e (over-more (indices 0 i) out i (omega arith)));
+}
 
 pub all-listed : {n i : ℕ} {out out′ : List ℕ} → n ≤ i → AllListed n out i out′ → out′ ≡ over (indices 0 n) out
 all-listed {n} {i} h w = let e : n ≡ i = omega arith in rw e (w .held)

@@ -60,7 +60,14 @@ pub fn repeat_reason(x: &[f64], y: &[f64], room: usize) -> Outcome
 }
 
 // Of a call that thins a line, with an output of so many places and scratch: 1, 2, 4, 3, 7, 8.
-pub fn thin_reason(x: &[f64], y: &[f64], tolerance: f64, room: usize, floats: &[f64], words: &[u32]) -> Outcome
+pub fn thin_reason(
+    x: &[f64],
+    y: &[f64],
+    tolerance: f64,
+    room: usize,
+    floats: &[f64],
+    words: &[u32],
+) -> Outcome
     ensures { λ r. ⌜ ofOutcome r ≡ verdict (thinReason (now (x .entry)) (now (y .entry)) tolerance room (length (now (floats .entry))) (length (now (words .entry))))
         (firstOffGrid (now (x .entry)) (now (y .entry))) ⌝ }
 {

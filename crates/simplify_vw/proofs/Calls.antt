@@ -62,9 +62,11 @@ module _ {us vs : List Float} {t : Float} {out : List ℕ} {fs : List Float} {ws
   module _ {m : Layout} (e : m ≡ scratchOf (length us)) where
     pub runs-fit : HasPoints m us vs × Room m fs ws × (m .points ≤ mostPoints)
     runs-fit =
-        rw e
-        (record { x = omega arith; y = omega (arith, ready .fine .level) }, record { areas = ready .floats; scores = omega arith; linked = omega (arith, ready .words) },
-        ready .fine .few)
+        rw e (
+          record { x = omega arith; y = omega (arith, ready .fine .level) },
+          record { areas = ready .floats; scores = omega arith; linked = omega (arith, ready .words) },
+          ready .fine .few,
+        )
 
     -- the list, and zeros over what the removals left
     pub keeps-indices : {fs₁ fs₂ : List Float} {ws₁ ws₂ out′ : List ℕ} {r : ℕ} → Ran us vs fs ws m t fs₁ ws₁ → length fs₁ ≡ length fs → length ws₁ ≡ length ws

@@ -15,7 +15,14 @@ use rule::Thinned;
 use thin::Stepped;
 
 // The index rule: a tolerance of 0 removes flat points, and a negative one nothing.
-pub fn simplify_vw_idx(x: &[f64], y: &[f64], tolerance: f64, out: &mut [u32], floats: &mut [f64], words: &mut [u32]) -> Thinned
+pub fn simplify_vw_idx(
+    x: &[f64],
+    y: &[f64],
+    tolerance: f64,
+    out: &mut [u32],
+    floats: &mut [f64],
+    words: &mut [u32],
+) -> Thinned
     ensures { λ r. ⌜ Thins indexRule (now (x .entry)) (now (y .entry)) tolerance (lent (now (out .entry)) (now (floats .entry)) (now (words .entry)))
         (ofThinned r) (lent (now (out .exit)) (now (floats .exit)) (now (words .exit))) ⌝ }
 {
@@ -26,7 +33,14 @@ pub fn simplify_vw_idx(x: &[f64], y: &[f64], tolerance: f64, out: &mut [u32], fl
 }
 
 // The point rule: a tolerance of zero or less keeps every point.
-pub fn simplify_vw(x: &[f64], y: &[f64], tolerance: f64, out: &mut [u32], floats: &mut [f64], words: &mut [u32]) -> Thinned
+pub fn simplify_vw(
+    x: &[f64],
+    y: &[f64],
+    tolerance: f64,
+    out: &mut [u32],
+    floats: &mut [f64],
+    words: &mut [u32],
+) -> Thinned
     ensures { λ r. ⌜ Thins pointRule (now (x .entry)) (now (y .entry)) tolerance (lent (now (out .entry)) (now (floats .entry)) (now (words .entry)))
         (ofThinned r) (lent (now (out .exit)) (now (floats .exit)) (now (words .exit))) ⌝ }
 {
@@ -37,7 +51,14 @@ pub fn simplify_vw(x: &[f64], y: &[f64], tolerance: f64, out: &mut [u32], floats
 }
 
 // Lists what the point rule keeps, and gives how many.
-fn visvalingam(x: &[f64], y: &[f64], tolerance: f64, out: &mut [u32], floats: &mut [f64], words: &mut [u32]) -> u32
+fn visvalingam(
+    x: &[f64],
+    y: &[f64],
+    tolerance: f64,
+    out: &mut [u32],
+    floats: &mut [f64],
+    words: &mut [u32],
+) -> u32
     requires { ⌜ Ready (now x) (now y) tolerance (lent (now out) (now floats) (now words)) ⌝ }
     ensures { λ r. ⌜ Keeps pointRule (now (x .entry)) (now (y .entry)) tolerance (lent (now (out .entry)) (now (floats .entry)) (now (words .entry)))
         r (lent (now (out .exit)) (now (floats .exit)) (now (words .exit))) ⌝ }
@@ -52,7 +73,14 @@ fn visvalingam(x: &[f64], y: &[f64], tolerance: f64, out: &mut [u32], floats: &m
 }
 
 // Lists what the index rule keeps, and gives how many.
-fn visvalingam_indices(x: &[f64], y: &[f64], tolerance: f64, out: &mut [u32], floats: &mut [f64], words: &mut [u32]) -> u32
+fn visvalingam_indices(
+    x: &[f64],
+    y: &[f64],
+    tolerance: f64,
+    out: &mut [u32],
+    floats: &mut [f64],
+    words: &mut [u32],
+) -> u32
     requires { ⌜ Ready (now x) (now y) tolerance (lent (now out) (now floats) (now words)) ⌝ }
     ensures { λ r. ⌜ Keeps indexRule (now (x .entry)) (now (y .entry)) tolerance (lent (now (out .entry)) (now (floats .entry)) (now (words .entry)))
         r (lent (now (out .exit)) (now (floats .exit)) (now (words .exit))) ⌝ }
@@ -65,7 +93,14 @@ fn visvalingam_indices(x: &[f64], y: &[f64], tolerance: f64, out: &mut [u32], fl
 }
 
 // Links the points and makes every removal.
-fn remove_all(x: &[f64], y: &[f64], floats: &mut [f64], words: &mut [u32], m: Layout, tolerance: f64)
+fn remove_all(
+    x: &[f64],
+    y: &[f64],
+    floats: &mut [f64],
+    words: &mut [u32],
+    m: Layout,
+    tolerance: f64,
+)
     requires { ⌜ HasPoints m (now x) (now y) × Room m (now floats) (now words) × (m .points ≤ mostPoints) ⌝ }
     ensures { λ r. ⌜ Ran (now (x .entry)) (now (y .entry)) (now (floats .entry)) (now (words .entry)) m tolerance (now (floats .exit)) (now (words .exit)) ⌝ }
 {

@@ -1,0 +1,29 @@
+-- `pylonfrith::pack_outcome` meets its contract. Assumes nothing.
+use borrow.Author.Needs.{needs}
+use Rattle.rule.specs.Answers.{ofOutcome}
+use Rattle.pylonfrith.proofs.Same.{packed-as}
+use Rattle.pylonfrith.proofs.pack_outcome.Statement.{statement}
+use Rattle.pylonfrith.proofs.pack_outcome.Tie as tie
+
+enum-told : tie.Need-enum-told
+enum-told c = search needs
+
+halves-requires : tie.Need-halves-requires
+halves-requires c κs = search needs
+
+enum-known-answer : tie.Need-enum-known-answer
+enum-known-answer c = search needs
+
+pack-refused-requires : tie.Need-pack-refused-requires
+pack-refused-requires c κs = search needs
+
+returns : tie.Need-returns
+returns c = packed-as ofOutcome (c .before .enum-told .given .1) (c .halves .ensures)
+
+returns-2 : tie.Need-returns-2
+returns-2 c = packed-as ofOutcome (c .before .before .answer .given .1) (c .pack-refused .ensures)
+
+pub pack-outcome-spec : {M : Type 1} → statement M
+pack-outcome-spec =
+    tie.close
+    (tie.spec enum-told halves-requires enum-known-answer pack-refused-requires returns returns-2)

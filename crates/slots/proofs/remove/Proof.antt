@@ -1,0 +1,67 @@
+-- `slots::remove` meets its contract, by the law of a removal. Assumes nothing.
+use mathlib.Core.Path.{_∙_}
+use mathlib.Core.Bool.{false}
+use native.Mathlib.Omega.{arith}
+use borrow.Author.Needs.{needs}
+use Rattle.thin.proofs.Removing.{room-as, removed-law}
+use Rattle.slots.proofs.remove.Statement.{statement}
+use Rattle.slots.proofs.remove.Tie as tie
+
+unlink-requires : tie.Need-unlink-requires
+unlink-requires c κs = search needs
+
+cast-previous : tie.Need-cast-previous
+cast-previous c = search needs
+
+previous-requires : tie.Need-previous-requires
+previous-requires c κs = search needs
+
+cast-next : tie.Need-cast-next
+cast-next c = search needs
+
+next-requires : tie.Need-next-requires
+next-requires c κs = search needs
+
+score-of-requires : tie.Need-score-of-requires
+score-of-requires c κs = search needs
+
+score-of-requires-2 : tie.Need-score-of-requires-2
+score-of-requires-2 c κs = search needs
+
+put-requires : tie.Need-put-requires
+put-requires c κs = search needs
+
+put-requires-2 : tie.Need-put-requires-2
+put-requires-2 c κs =
+    let p = c .before .before .before .before .before .before in
+    let u = p .before .before .before .before .before .before .before .before .before .before .before .before .before .before .before in
+    room-as (p .put .kept .0) (p .put .kept .1 .0 ∙ u .unlink .kept .0) (u .before .before .before .before .pre .1)
+
+same-length : tie.Need-same-length
+same-length c = search needs
+
+same-length-2 : tie.Need-same-length-2
+same-length-2 c =
+    let q = c .before .before .before .before in
+    let p = q .before .before .before .before .before .before .before in
+    let u = p .before .before .before .before .before .before .before .before .before .before .before .before .before .before .before in
+    omega (arith, q .put2 .kept .1 .0, p .put .kept .1 .0, u .unlink .kept .0)
+
+returns : tie.Need-returns
+returns c t =
+    let q = c .before .before .before .before in
+    let p = q .before .before .before .before .before .before .before in
+    let r = p .before .before .before in
+    let l = r .before .before in
+    let n = l .before .before in
+    let b = n .before .before .before in
+    let u = b .before .before .before .before .before in
+    let start = u .before .before .before .before in
+    removed-law (start .args .s) false t (start .pre .1) (start .pre .2) (start .pre .3) (u .unlink .ensures) (b .previous .ensures) (n .next .ensures)
+    (l .score-of .ensures) (r .score-of2 .ensures) (p .put .ensures) (q .put2 .ensures)
+
+pub remove-spec : {M : Type 1} → statement M
+remove-spec =
+    tie.close
+    (tie.spec unlink-requires cast-previous previous-requires cast-next next-requires score-of-requires score-of-requires-2 put-requires put-requires-2 same-length
+    same-length-2 returns)

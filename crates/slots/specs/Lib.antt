@@ -1,0 +1,4 @@
+pub mod Rep
+pub mod Parts
+pub mod History
+pub mod Since
