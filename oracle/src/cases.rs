@@ -216,6 +216,18 @@ pub fn case(random: &mut Random) -> Case {
     }
 }
 
+/// A line of so many points, with many ties and repeats.
+pub fn line_of(random: &mut Random, count: usize) -> Vec<Pair> {
+    points(random, Style::Square(9), count)
+}
+
+/// A closed ring of so many points, two at least.
+pub fn ring_of(random: &mut Random, count: usize) -> Vec<Pair> {
+    let mut ring = points(random, Style::Square(9), count - 1);
+    ring.push(ring[0]);
+    ring
+}
+
 /// The ring table of these rings.
 pub fn ring_table(rings: &[Vec<Pair>]) -> Vec<usize> {
     let mut end = 0;

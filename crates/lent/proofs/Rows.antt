@@ -17,7 +17,7 @@ use Rattle.lent.specs.Fine.{Fine, Ready}
 use Rattle.lent.proofs.Scan.{on-all}
 
 -- a row with a number was passed
-passed : (r : Row) (n : ℕ) (rs : List Row) → r .number ≡ suc n → firstOf (r ∷ rs) ≡ 0 → (r .applies ≡ false) × (firstOf rs ≡ 0)
+pub passed : (r : Row) (n : ℕ) (rs : List Row) → r .number ≡ suc n → firstOf (r ∷ rs) ≡ 0 → (r .applies ≡ false) × (firstOf rs ≡ 0)
 passed r n rs d e = go (r .applies) refl e
   where
     go : (b : Bool) → r .applies ≡ b → cond b (r .number) (firstOf rs) ≡ 0 → (r .applies ≡ false) × (firstOf rs ≡ 0)
@@ -54,7 +54,7 @@ module _ (us vs : List Float) (t : Float) (e : firstOf (lineRows us vs t) ≡ 0)
   line-then rs = rw (line-passed .0, line-passed .1, line-passed .2, line-passed .3)
 
 -- where there is no reason, there is none among the rows that come first
-first-none : (rs ss : List Row) → firstOf (rs ++ ss) ≡ 0 → firstOf rs ≡ 0
+pub first-none : (rs ss : List Row) → firstOf (rs ++ ss) ≡ 0 → firstOf rs ≡ 0
 first-none [] ss e = refl
 first-none (r ∷ rs) ss e = go (r .applies) e (first-none rs ss)
   where

@@ -4,7 +4,8 @@ ghost use Rattle.rule.specs.Plain.{indexRule, pointRule};
 ghost use Rattle.rule.specs.Repeat.{consecutive, anywhere};
 ghost use Rattle.rule.specs.Answers.{refusedFor, ofThinned, ofOutcome, ofStep, ofListing};
 ghost use Rattle.rule.specs.Area as memory;
-ghost use Rattle.rule.specs.Whole.{Lists, lent, Thins};
+ghost use Rattle.rule.specs.Rings.{lineRule};
+ghost use Rattle.rule.specs.Whole.{Lists, lent, Thins, lentRings, ThinsRings};
 ghost use Rattle.rule.specs.SlotCalls.{Clears, Closes, Opens, Steps, Reads};
 ghost use Rattle.slots.specs.Rep.{Rep};
 ghost use Rattle.pylonfrith.specs.Packing.{Halves, areaAfter, Packed, Packs};
@@ -43,6 +44,48 @@ pub extern "C" fn pf_simplify_vw(
         (lent (now (out .entry)) (now (floats .entry)) (now (words .entry))) r (lent (now (out .exit)) (now (floats .exit)) (now (words .exit)))) n ⌝ }
 {
     pack_thinned(simplify_vw::simplify_vw(x, y, tolerance, out, floats, words))
+}
+
+#[no_mangle]
+pub extern "C" fn pf_simplify_vw_preserve(
+    x: &[f64],
+    y: &[f64],
+    tolerance: f64,
+    out: &mut [u32],
+    floats: &mut [f64],
+    words: &mut [u32],
+) -> u64
+    ensures { λ n. ⌜ Packs ofThinned (λ r. Thins lineRule (now (x .entry)) (now (y .entry)) tolerance
+        (lent (now (out .entry)) (now (floats .entry)) (now (words .entry))) r (lent (now (out .exit)) (now (floats .exit)) (now (words .exit)))) n ⌝ }
+{
+    pack_thinned(simplify_vw_preserve::simplify_vw_preserve(x, y, tolerance, out, floats, words))
+}
+
+#[no_mangle]
+pub extern "C" fn pf_simplify_vw_preserve_polygon(
+    x: &[f64],
+    y: &[f64],
+    tolerance: f64,
+    rings: &[u32],
+    out: &mut [u32],
+    ends: &mut [u32],
+    floats: &mut [f64],
+    words: &mut [u32],
+) -> u64
+    ensures { λ n. ⌜ Packs ofThinned (λ r. ThinsRings (now (x .entry)) (now (y .entry)) tolerance (now (rings .entry))
+        (lentRings (now (out .entry)) (now (ends .entry)) (now (floats .entry)) (now (words .entry))) r
+        (lentRings (now (out .exit)) (now (ends .exit)) (now (floats .exit)) (now (words .exit)))) n ⌝ }
+{
+    pack_thinned(simplify_vw_preserve::simplify_vw_preserve_polygon(
+        x,
+        y,
+        tolerance,
+        rings,
+        out,
+        ends,
+        floats,
+        words,
+    ))
 }
 
 #[no_mangle]

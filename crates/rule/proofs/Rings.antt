@@ -191,7 +191,7 @@ table-good n (hi ∷ his) h = go (ltb mostRings (length (hi ∷ his))) refl (ris
         record { nonempty = omega arith; most = ltb-false mostRings (length (hi ∷ his)) ea; rise = eb; last = eqb-true (lastOr hi his) n ec }
 
 -- the first entry is not below lo, and the others rise from it
-rises-cons : (lo hi : ℕ) (his : List ℕ) → rises lo (hi ∷ his) ≡ true → (lo ≤ hi) × (rises hi his ≡ true)
+pub rises-cons : (lo hi : ℕ) (his : List ℕ) → rises lo (hi ∷ his) ≡ true → (lo ≤ hi) × (rises hi his ≡ true)
 unfolding rises
 rises-cons lo hi his h = go (leb lo hi) refl h
   where
@@ -199,7 +199,7 @@ rises-cons lo hi his h = go (leb lo hi) refl h
     go true e g = (leb-true lo hi e, g)
     go false e g = absurd (false≢true g)
 
-rises-last : (lo : ℕ) (table : List ℕ) → rises lo table ≡ true → lo ≤ lastOr lo table
+pub rises-last : (lo : ℕ) (table : List ℕ) → rises lo table ≡ true → lo ≤ lastOr lo table
 rises-last lo [] h = omega arith
 rises-last lo (hi ∷ his) h = let r = rises-cons lo hi his h in omega (arith, r .0, rises-last hi his (r .1))
 

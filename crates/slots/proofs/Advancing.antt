@@ -1,8 +1,8 @@
 -- One removal in a part: the step of the plain rule, by what `pick` and `remove` promise. Assumes nothing.
-use mathlib.Core.Path.{_≡_, refl, ap, ap₂, subst}
+use mathlib.Core.Path.{_≡_, refl, ap₂, subst}
 use mathlib.Core.Bool.{false}
 use mathlib.Core.List.{List}
-use Prim.Native.Nat.{ℕ, _*_, _-_, _≤_}
+use Prim.Native.Nat.{ℕ, _-_, _≤_}
 use native.Mathlib.Omega.{arith}
 use lib.ListN.{length, getD, set}
 use lib.Ieee.{Float, nan}
@@ -15,7 +15,6 @@ use Rattle.rule.specs.Slots.{stepAnswer}
 use Rattle.rule.specs.SlotCalls.{isRefused, lessBy}
 use Rattle.layout.specs.declared.Layout.{Layout}
 use Rattle.layout.specs.Layout.{slotOf}
-use Rattle.layout.specs.Points.{PlacedIn}
 use Rattle.vscore.specs.declared.VScore.{VScore}
 use Rattle.thin.specs.Queue.{PickDone}
 use Rattle.thin.specs.Plain.{StepDone, scores}

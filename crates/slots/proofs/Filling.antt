@@ -1,5 +1,5 @@
 -- Opening: a part into which a line was copied, linked and scored holds it with every point left. Assumes nothing.
-use mathlib.Core.Path.{_≡_, refl, sym, ap, ap₂, _∙_, subst}
+use mathlib.Core.Path.{_≡_, sym, ap, ap₂, _∙_, subst}
 use mathlib.Core.Bool.{true, not}
 use mathlib.Core.List.{List}
 use Prim.Native.Nat.{ℕ, _+_, _-_, _≤_, _<_}
@@ -11,7 +11,7 @@ use lib.Seq.{getD-set-same, getD-set-other}
 use lib.Ieee.{Float, nan}
 use Rattle.rule.specs.Sizes.{slotFloats, slotWords}
 use Rattle.rule.specs.Grid.{Point, points, pointOf, isFinite}
-use Rattle.rule.specs.Plain.{indices, all, areaAt}
+use Rattle.rule.specs.Plain.{all}
 use Rattle.rule.specs.Area.{area, isOpen}
 use Rattle.grid.specs.On.{On}
 use Rattle.lent.specs.Fine.{Fine}
@@ -19,10 +19,8 @@ use Rattle.lent.proofs.Points.{length-points, at-points}
 use Rattle.layout.specs.declared.Layout.{Layout}
 use Rattle.layout.specs.Layout.{slotOf}
 use Rattle.layout.specs.Points.{Placed, PlacedIn}
-use Rattle.vscore.specs.Scale.{halves}
-use Rattle.vscore.proofs.Scales.{halves-faithful}
 use Rattle.links.specs.Calls.{Joined}
-use Rattle.thin.specs.State.{fresh, Rep as State, Seeded}
+use Rattle.thin.specs.State.{Seeded}
 use Rattle.thin.specs.Plain.{LineRep}
 use Rattle.thin.proofs.Stepping.{line-begins}
 use Rattle.slots.specs.Rep.{toleranceAt, Rep}

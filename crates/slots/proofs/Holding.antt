@@ -1,19 +1,17 @@
 -- What a part holds while its header and its state change. Assumes nothing.
-use mathlib.Core.Path.{_≡_, sym, ap, ap₂, _∙_, subst}
+use mathlib.Core.Path.{_≡_, sym, ap, _∙_, subst}
 use mathlib.Core.Bool.{not}
 use mathlib.Core.List.{List}
-use Prim.Native.Nat.{ℕ, _+_, _≤_, _<_}
+use Prim.Native.Nat.{ℕ, _≤_, _<_}
 use native.Mathlib.Omega.{arith}
 use lib.Dec.{eqb}
 use lib.ListN.{length, getD, set, length-set}
 use lib.Seq.{getD-set-same, getD-set-other}
 use lib.Ieee.{Float, nan}
-use Rattle.rule.specs.Grid.{Point, pointOf}
+use Rattle.rule.specs.Grid.{Point}
 use Rattle.rule.specs.Area.{area, isOpen}
-use Rattle.grid.specs.On.{On}
 use Rattle.layout.specs.declared.Layout.{Layout}
 use Rattle.layout.specs.Layout.{header, slotOf}
-use Rattle.layout.specs.Points.{PlacedIn}
 use Rattle.links.specs.Words.{SameLinks}
 use Rattle.links.proofs.Memory.{same-from, ring-same}
 use Rattle.thin.specs.Queue.{View}

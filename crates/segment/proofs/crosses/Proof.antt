@@ -1,6 +1,5 @@
 -- `segment::crosses` meets its contract. Assumes nothing.
 use Prim.Native.Nat.{_-_}
-use native.Mathlib.Omega.{arith}
 use borrow.Author.Needs.{needs}
 use Rattle.segment.proofs.Crossing.{Scan, scan-start, scan-end, scan-found, scan-more}
 use Rattle.segment.proofs.crosses.Statement.{statement}

@@ -17,7 +17,9 @@ reaches-requires-2 c κs = search needs
 
 returns-2 : tie.Need-returns-2
 unfolding overlap
-returns-2 k a b c d = rw (← k .before .before .reaches .ensures a b c d, not-false (k .before .before .reaches .result) (k .before .if1 .left)) (k .reaches2 .ensures c d a b)
+returns-2 k a b c d =
+    let r = k .before .before in
+    rw (← r .reaches .ensures a b c d, not-false (r .reaches .result) (k .before .if1 .left)) (k .reaches2 .ensures c d a b)
 
 pub overlap-spec : {M : Type 1} → statement M
 overlap-spec = tie.close (tie.spec reaches-requires returns reaches-requires-2 returns-2)

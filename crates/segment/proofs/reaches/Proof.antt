@@ -12,11 +12,26 @@ returns-2 k a b c d =
 
 returns-3 : tie.Need-returns-3
 returns-3 k a b c d =
-    rw (← le-whole (on-grid _ a) (on-grid _ c), k .before .before .if1 .left, ← le-whole (on-grid _ a) (on-grid _ d), k .before .if2 .left, ← le-whole (on-grid _ b) (on-grid _ c), k .if3 .taken)
+    rw (
+      ← le-whole (on-grid _ a) (on-grid _ c),
+      k .before .before .if1 .left,
+      ← le-whole (on-grid _ a) (on-grid _ d),
+      k .before .if2 .left,
+      ← le-whole (on-grid _ b) (on-grid _ c),
+      k .if3 .taken,
+    )
 
 returns-4 : tie.Need-returns-4
 returns-4 k a b c d =
-    rw (← le-whole (on-grid _ a) (on-grid _ c), k .before .before .if1 .left, ← le-whole (on-grid _ a) (on-grid _ d), k .before .if2 .left, ← le-whole (on-grid _ b) (on-grid _ c), k .if3 .left, ← le-whole (on-grid _ b) (on-grid _ d))
+    rw (
+      ← le-whole (on-grid _ a) (on-grid _ c),
+      k .before .before .if1 .left,
+      ← le-whole (on-grid _ a) (on-grid _ d),
+      k .before .if2 .left,
+      ← le-whole (on-grid _ b) (on-grid _ c),
+      k .if3 .left,
+      ← le-whole (on-grid _ b) (on-grid _ d),
+    )
 
 pub reaches-spec : {M : Type 1} → statement M
 reaches-spec = tie.close (tie.spec returns returns-2 returns-3 returns-4)

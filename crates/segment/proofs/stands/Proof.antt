@@ -66,7 +66,8 @@ returns-3 c =
     let e = c .before .before .before .before .before .before .before .before .before in
     let n = e .before .before in
     let k = n .before in
-    one-starts (eqb-true _ 0 (sym (k .before .kept .ensures) ∙ not-false (k .before .kept .result) (k .if1 .left))) (n .next .ensures) (e .if2 .left) (c .against .ensures)
+    one-starts (eqb-true _ 0 (sym (k .before .kept .ensures) ∙ not-false (k .before .kept .result) (k .if1 .left))) (n .next .ensures) (e .if2 .left)
+    (c .against .ensures)
 
 pub stands-spec : {M : Type 1} → statement M
 stands-spec =

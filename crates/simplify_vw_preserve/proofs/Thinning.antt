@@ -1,0 +1,273 @@
+-- The loops over the ring table: all rings linked, and all rings thinned. Assumes nothing.
+use mathlib.Core.Path.{_≡_, refl, sym, ap, _∙_, subst}
+use mathlib.Core.Bool.{true, false}
+use mathlib.Core.List.{List, [], _∷_, _++_, append-assoc, append-nil}
+use mathlib.Core.Logic.{inl}
+use Prim.Native.Nat.{ℕ, _+_, _*_, _-_, _≤_, _<_}
+use native.Mathlib.Numerals.{add-one}
+use native.Mathlib.Omega.{arith}
+use lib.ListN.{length, drop, getD, length-append, length-drop}
+use lib.Seq.{drop-cons}
+use lib.Ieee.{Float}
+use Rattle.rule.specs.Grid.{Point, isFinite, positive}
+use Rattle.rule.specs.Plain.{indices, leave}
+use Rattle.rule.specs.Preserve.{Minima, ringRemovals, ringsRemovals, leaveEach, preserveRemoved, preserve}
+use Rattle.rule.specs.Rings.{rises, lastOr, ringsFrom}
+use Rattle.rule.proofs.Rings.{rises-cons, rises-last, preserve-all}
+use Rattle.layout.specs.declared.Layout.{Layout}
+use Rattle.layout.specs.Layout.{Room}
+use Rattle.layout.specs.Points.{PlacedIn}
+use Rattle.links.specs.Ring.{Rings}
+use Rattle.links.specs.Calls.{Joined}
+use Rattle.links.proofs.Rings.{rings-same, rings-append}
+use Rattle.thin.specs.State.{most}
+use Rattle.simplify_vw_preserve.specs.State.{Setting, leftIn, Ended, Outside}
+use Rattle.simplify_vw_preserve.specs.Calls.{RingDone, Cuts, LinkedAll, AllDone, Wrapped}
+use Rattle.simplify_vw_preserve.proofs.Running.{outside-self, outside-then}
+
+-- ---- the table
+
+-- `past` are the ends of k rings, which end at lo, and the others rise from there to n
+pub record Cut (ends : List ℕ) (n : ℕ) (past : List ℕ) (k lo : ℕ) : Type 0 where
+  pub number : length past ≡ k
+  pub cut : past ++ drop k ends ≡ ends
+  pub rise : rises lo (drop k ends) ≡ true
+  pub last : lastOr lo (drop k ends) ≡ n
+
+pub cut-start : {ends : List ℕ} {n : ℕ} → Cuts n ends → Cut ends n [] 0 0
+cut-start c = record { number = refl; cut = refl; rise = c .rise; last = c .last }
+
+module _ {ends : List ℕ} {n : ℕ} {past : List ℕ} {k lo : ℕ} (c : Cut ends n past k lo) where
+  pub cut-end : length ends ≤ k → (past ≡ ends) × (lo ≡ n)
+  cut-end h = go (drop k ends) (omega (arith, length-drop k ends)) (c .cut) (c .last)
+    where
+      go : (l : List ℕ) → length l ≤ 0 → past ++ l ≡ ends → lastOr lo l ≡ n → (past ≡ ends) × (lo ≡ n)
+      go [] g e f = (sym (append-nil past) ∙ e, f)
+      go (x ∷ l) g e f = absurd (omega arith)
+
+  module _ (h : k < length ends) where
+    -- the next ring ends at hi
+    abbrev hi : ℕ
+    hi = getD ends k 0
+
+    pub next-is : drop k ends ≡ getD ends k 0 ∷ drop (k + 1) ends
+    next-is = drop-cons ends k 0 h ∙ ap (λ (j : ℕ). getD ends k 0 ∷ drop j ends) (sym (add-one k))
+
+    pub next-rings : ringsFrom lo (drop k ends) ≡ indices lo (getD ends k 0 - lo) ∷ ringsFrom (getD ends k 0) (drop (k + 1) ends)
+    unfolding ringsFrom
+    next-rings = ap (ringsFrom lo) next-is
+
+    next-rises : (lo ≤ hi) × (rises hi (drop (k + 1) ends) ≡ true)
+    next-rises = rises-cons lo hi (drop (k + 1) ends) (subst (λ (l : List ℕ). rises lo l ≡ true) next-is (c .rise))
+
+    pub next-cut : Cut ends n (past ++ (getD ends k 0 ∷ [])) (k + 1) (getD ends k 0)
+    next-cut = record {
+      number = length-append past (hi ∷ []) ∙ ap (λ (j : ℕ). j + 1) (c .number);
+      cut = append-assoc past (hi ∷ []) (drop (k + 1) ends) ∙ ap (λ (l : List ℕ). past ++ l) (sym next-is) ∙ c .cut;
+      rise = next-rises .1;
+      last = ap (λ (l : List ℕ). lastOr lo l) (sym next-is) ∙ c .last;
+    }
+
+    pub next-from : lo ≤ getD ends k 0
+    next-from = next-rises .0
+
+    pub next-to : getD ends k 0 ≤ n
+    next-to = omega (arith, rises-last hi (drop (k + 1) ends) (next-rises .1), next-cut .last)
+
+-- one ring more
+ring-more : (ws : List ℕ) (m : Layout) (lo hi : ℕ) (past : List ℕ) (done : List (List ℕ)) (ks : List ℕ)
+    → Rings ws m 0 lo past done → Rings ws m lo hi (hi ∷ []) (ks ∷ []) → Rings ws m 0 hi (past ++ (hi ∷ [])) (done ++ (ks ∷ []))
+ring-more ws m lo hi past done ks a b = rings-append ws m 0 lo hi past done (hi ∷ []) (ks ∷ []) a b
+
+-- ---- all rings linked
+
+pub record Linking (ws : List ℕ) (m : Layout) (ends : List ℕ) (ws′ : List ℕ) (lo k : ℕ) : Type 0 where
+  pub past : List ℕ
+  pub done : List (List ℕ)
+  pub size : length ws′ ≡ length ws
+  pub table : Cut ends (m .points) past k lo
+  pub rings : Rings ws′ m 0 lo past done
+  pub whole : done ++ ringsFrom lo (drop k ends) ≡ ringsFrom 0 ends
+  pub before : (i : ℕ) → i < m .links → getD ws′ i 0 ≡ getD ws i 0
+  pub after : (i : ℕ) → m .links + 3 * m .points ≤ i → getD ws′ i 0 ≡ getD ws i 0
+
+module _ {ws : List ℕ} {m : Layout} {ends : List ℕ} where
+  pub linking-start : Cuts (m .points) ends → Linking ws m ends ws 0 0
+  linking-start c = record {
+    past = [];
+    done = [];
+    size = refl;
+    table = cut-start c;
+    rings = refl;
+    whole = refl;
+    before = λ i h. refl;
+    after = λ i h. refl;
+  }
+
+  module _ {ws′ : List ℕ} {lo k : ℕ} (s : Linking ws m ends ws′ lo k) where
+    pub linking-more : (h : k < length ends) {ws″ : List ℕ} → length ws″ ≡ length ws′ → Joined ws′ m lo (getD ends k 0) ws″
+        → Linking ws m ends ws″ (getD ends k 0) (k + 1)
+    linking-more h {ws″} l j =
+        let hi = getD ends k 0 in
+        let ks = indices lo (hi - lo) in
+        record {
+          past = s .past ++ (hi ∷ []);
+          done = s .done ++ (ks ∷ []);
+          size = l ∙ s .size;
+          table = next-cut (s .table) h;
+          rings = ring-more ws″ m lo hi (s .past) (s .done) ks
+              (rings-same ws′ ws″ m 0 lo (s .past) (s .done)
+              (λ i p q. j .only .others i (omega (arith, next-from (s .table) h, next-to (s .table) h)) (inl q)) (s .rings))
+              (j .ring, refl);
+          whole = append-assoc (s .done) (ks ∷ []) (ringsFrom hi (drop (k + 1) ends))
+              ∙ ap (λ (l : List (List ℕ)). s .done ++ l) (sym (next-rings (s .table) h)) ∙ s .whole;
+          before = λ i g. j .only .before i g ∙ s .before i g;
+          after = λ i g. j .only .after i g ∙ s .after i g;
+        }
+
+    pub linking-end : length ends ≤ k → LinkedAll ws m ends ws′
+    unfolding ringsFrom
+    linking-end h =
+        let e = cut-end (s .table) h in
+        record { rings = all (drop k ends) (omega (arith, length-drop k ends)) (s .whole) (e .0) (e .1); before = s .before; after = s .after }
+      where
+        all : (l : List ℕ) → length l ≤ 0 → s .done ++ ringsFrom lo l ≡ ringsFrom 0 ends → s .past ≡ ends → lo ≡ m .points
+            → Rings ws′ m 0 (m .points) ends (ringsFrom 0 ends)
+        all [] g w p e =
+            subst (λ (n : ℕ). Rings ws′ m 0 n ends (ringsFrom 0 ends)) e
+            (subst (λ (kss : List (List ℕ)). Rings ws′ m 0 lo ends kss) (sym (append-nil (s .done)) ∙ w)
+            (subst (λ (es : List ℕ). Rings ws′ m 0 lo es (s .done)) p (s .rings)))
+        all (x ∷ l) g w p e = absurd (omega arith)
+
+-- ---- all rings thinned
+
+-- what the rule keeps of each ring, where `done` are kept of those before
+unfoldable pub keeps : List Point → Float → Minima → List (List ℕ) → List (List ℕ) → List (List ℕ)
+unfolding ringsRemovals leaveEach
+keeps ps t q done kss = leaveEach (ringsRemovals ps t q done kss) kss
+
+module _ (ps : List Point) (t : Float) (q : Minima) where
+  keeps-none : (done : List (List ℕ)) → keeps ps t q done [] ≡ []
+  unfolding keeps ringsRemovals leaveEach
+  keeps-none done = refl
+
+  keeps-one : (done : List (List ℕ)) (ks : List ℕ) (kss : List (List ℕ)) → let l = leave (ringRemovals (length ks) ps t q (done ++ kss) [] ks) ks in
+      keeps ps t q done (ks ∷ kss) ≡ l ∷ keeps ps t q (done ++ (l ∷ [])) kss
+  unfolding keeps ringsRemovals leaveEach
+  keeps-one done ks kss = refl
+
+  keeps-all : positive t ≡ true → (kss : List (List ℕ)) → keeps ps t q [] kss ≡ preserve ps t q kss
+  unfolding keeps preserve preserveRemoved
+  keeps-all e kss = rw (preserveRemoved, e)
+
+-- the rings before lo are thinned, and the others are whole
+pub record Halfway (ps : List Point) (t : Float) (q : Minima) (ends : List ℕ) (ws′ : List ℕ) (m : Layout) (past : List ℕ) (lo k : ℕ) : Type 0 where
+  pub done : List (List ℕ)
+  pub before : Rings ws′ m 0 lo past done
+  pub after : Rings ws′ m lo (m .points) (drop k ends) (ringsFrom lo (drop k ends))
+  pub same : done ++ keeps ps t q done (ringsFrom lo (drop k ends)) ≡ keeps ps t q [] (ringsFrom 0 ends)
+
+pub record Thinning (us vs fs : List Float) (ws : List ℕ) (m : Layout) (ends : List ℕ) (q : Minima) (t : Float) (fs′ : List Float) (ws′ : List ℕ) (lo k : ℕ) : Type 0 where
+  pub past : List ℕ
+  pub floats : length fs′ ≡ length fs
+  pub words : length ws′ ≡ length ws
+  pub table : Cut ends (m .points) past k lo
+  pub frame : Outside fs ws m fs′ ws′
+  pub under : (ps : List Point) → PlacedIn us vs m ps → isFinite t ≡ true → positive t ≡ true → most m ≤ m .capacity → Rings ws m 0 (m .points) ends (ringsFrom 0 ends)
+      → Halfway ps t q ends ws′ m past lo k
+
+module _ {us vs fs : List Float} {ws : List ℕ} {m : Layout} {ends : List ℕ} {q : Minima} {t : Float} where
+  pub thinning-start : Cuts (m .points) ends → Thinning us vs fs ws m ends q t fs ws 0 0
+  thinning-start c = record {
+    past = [];
+    floats = refl;
+    words = refl;
+    table = cut-start c;
+    frame = outside-self fs ws m;
+    under = λ ps p f a fits r. record { done = []; before = refl; after = r; same = refl };
+  }
+
+  module _ {fs′ : List Float} {ws′ : List ℕ} {lo k : ℕ} (s : Thinning us vs fs ws m ends q t fs′ ws′ lo k) where
+    module _ (h : k < length ends) {fs″ : List Float} {ws″ : List ℕ} (d : RingDone us vs fs′ ws′ m lo (getD ends k 0) q t fs″ ws″) where
+      more : (ps : List Point) → PlacedIn us vs m ps → isFinite t ≡ true → positive t ≡ true → most m ≤ m .capacity → Halfway ps t q ends ws′ m (s .past) lo k
+          → Halfway ps t q ends ws″ m (s .past ++ (getD ends k 0 ∷ [])) (getD ends k 0) (k + 1)
+      more ps p f a fits w =
+          record {
+            done = w .done ++ (left ∷ []);
+            before = ring-more ws″ m lo (getD ends k 0) (s .past) (w .done) left (e .others .before) (e .ring, refl);
+            after = e .others .after;
+            same = append-assoc (w .done) (left ∷ []) (keeps ps t q (w .done ++ (left ∷ [])) kss)
+                ∙ ap (λ (l : List (List ℕ)). w .done ++ l)
+                (sym (keeps-one ps t q (w .done) (indices lo (getD ends k 0 - lo)) kss) ∙ ap (keeps ps t q (w .done)) (sym (next-rings (s .table) h)))
+                ∙ w .same;
+          }
+        where
+          kss : List (List ℕ)
+          kss = ringsFrom (getD ends k 0) (drop (k + 1) ends)
+
+          g : Setting
+          g = record {
+            points = ps;
+            lo = lo;
+            hi = getD ends k 0;
+            endsBefore = s .past;
+            before = w .done;
+            endsAfter = drop (k + 1) ends;
+            after = ringsFrom (getD ends k 0) (drop (k + 1) ends);
+          }
+
+          left : List ℕ
+          left = leftIn g t q [] (indices lo (getD ends k 0 - lo))
+
+          here : Rings ws′ m lo (m .points) (getD ends k 0 ∷ drop (k + 1) ends) (indices lo (getD ends k 0 - lo) ∷ ringsFrom (getD ends k 0) (drop (k + 1) ends))
+          here =
+              subst (λ (x : List (List ℕ)). Rings ws′ m lo (m .points) (getD ends k 0 ∷ drop (k + 1) ends) x) (next-rings (s .table) h)
+              (subst (λ (x : List ℕ). Rings ws′ m lo (m .points) x (ringsFrom lo (drop k ends))) (next-is (s .table) h) (w .after))
+
+          e : Ended g left ws″ m
+          e = d .does g (record { placed = p; finite = f; above = a }) refl refl fits (record { ring = here .0; others = record { before = w .before; after = here .1 } })
+
+      pub thinning-more : length fs″ ≡ length fs′ → length ws″ ≡ length ws′ → Thinning us vs fs ws m ends q t fs″ ws″ (getD ends k 0) (k + 1)
+      thinning-more lf lw = record {
+        past = s .past ++ (getD ends k 0 ∷ []);
+        floats = lf ∙ s .floats;
+        words = lw ∙ s .words;
+        table = next-cut (s .table) h;
+        frame = outside-then (s .frame) (d .frame);
+        under = λ ps p f a fits r. more ps p f a fits (s .under ps p f a fits r);
+      }
+
+    pub thinning-end : length ends ≤ k → AllDone us vs fs ws m ends q t fs′ ws′
+    unfolding ringsFrom
+    thinning-end h = record {
+      frame = s .frame;
+      does = λ ps p f a fits r. end ps a (s .under ps p f a fits r);
+    }
+      where
+        end : (ps : List Point) → positive t ≡ true → Halfway ps t q ends ws′ m (s .past) lo k → Rings ws′ m 0 (m .points) ends (preserve ps t q (ringsFrom 0 ends))
+        end ps a w = go (drop k ends) (omega (arith, length-drop k ends)) (w .same) (cut-end (s .table) h .0) (cut-end (s .table) h .1)
+          where
+            go : (l : List ℕ) → length l ≤ 0 → w .done ++ keeps ps t q (w .done) (ringsFrom lo l) ≡ keeps ps t q [] (ringsFrom 0 ends) → s .past ≡ ends → lo ≡ m .points
+                → Rings ws′ m 0 (m .points) ends (preserve ps t q (ringsFrom 0 ends))
+            go [] g e z n =
+                subst (λ (i : ℕ). Rings ws′ m 0 i ends (preserve ps t q (ringsFrom 0 ends))) n
+                (subst (λ (kss : List (List ℕ)). Rings ws′ m 0 lo ends kss)
+                (sym (append-nil (w .done)) ∙ ap (λ (l : List (List ℕ)). w .done ++ l) (sym (keeps-none ps t q (w .done))) ∙ e ∙ keeps-all ps t q a (ringsFrom 0 ends))
+                (subst (λ (es : List ℕ). Rings ws′ m 0 lo es (w .done)) z (w .before)))
+            go (x ∷ l) g e z n = absurd (omega arith)
+
+-- ---- all rings linked, and then thinned if the tolerance is above zero
+
+linked-frame : {fs : List Float} {ws : List ℕ} {m : Layout} {ends : List ℕ} {ws₁ : List ℕ} → Room m fs ws → LinkedAll ws m ends ws₁ → Outside fs ws m fs ws₁
+linked-frame room l = record { floats = λ i h. refl; before = λ i h. l .before i (omega (arith, room .scores)); after = l .after }
+
+module _ {us vs fs : List Float} {ws : List ℕ} {m : Layout} {ends : List ℕ} {q : Minima} {t : Float} {ws₁ : List ℕ} where
+  pub wrapped-whole : Room m fs ws → LinkedAll ws m ends ws₁ → positive t ≡ false → Wrapped us vs fs ws m ends q t fs ws₁
+  wrapped-whole room l e = record {
+    frame = linked-frame room l;
+    rings = λ ps p f fits. subst (Rings ws₁ m 0 (m .points) ends) (sym (preserve-all ps t q (ringsFrom 0 ends) e)) (l .rings);
+  }
+
+  pub wrapped-thinned : {fs′ : List Float} {ws′ : List ℕ} → Room m fs ws → LinkedAll ws m ends ws₁ → positive t ≡ true → AllDone us vs fs ws₁ m ends q t fs′ ws′
+      → Wrapped us vs fs ws m ends q t fs′ ws′
+  wrapped-thinned room l e d = record { frame = outside-then (linked-frame room l) (d .frame); rings = λ ps p f fits. d .does ps p f e fits (l .rings) }

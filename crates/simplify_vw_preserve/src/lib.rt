@@ -1,0 +1,209 @@
+// The preserving rule: a line, and the rings of a polygon, each beside the earlier ones already thinned and the later ones whole.
+// Each statement settles its call: rule's `thins-settled` and `rings-settled`.
+mod moves;
+mod reasons;
+
+ghost use mathlib.Core.Path.{_≡_};
+ghost use mathlib.Core.List.{map};
+ghost use Prim.Native.Nat.{_≤_};
+ghost use lib.ListN.{length};
+ghost use Rattle.rule.specs.Sizes.{mostPoints};
+ghost use Rattle.rule.specs.Rings.{lineRule};
+ghost use Rattle.rule.specs.Answers.{ofThinned};
+ghost use Rattle.rule.specs.Whole.{over, lent, lentRings, Thins, ThinsRings};
+ghost use Rattle.layout.specs.Layout.{Room};
+ghost use Rattle.layout.specs.Points.{HasPoints};
+ghost use Rattle.lent.specs.Fine.{Ready};
+ghost use Rattle.links.specs.Words.{HasLinks};
+ghost use Rattle.simplify_vw_preserve.specs.Calls.{minima, Cuts, LinkedAll, AllDone, Wrapped, countBelow};
+ghost use Rattle.simplify_vw_preserve.specs.Whole.{ReadyRings, KeepsLine, KeepsRings};
+use layout::Layout;
+use rule::Outcome;
+use rule::Thinned;
+
+// A line: minima 2 and 4.
+pub fn simplify_vw_preserve(
+    x: &[f64],
+    y: &[f64],
+    tolerance: f64,
+    out: &mut [u32],
+    floats: &mut [f64],
+    words: &mut [u32],
+) -> Thinned
+    ensures { λ r. ⌜ Thins lineRule (now (x .entry)) (now (y .entry)) tolerance (lent (now (out .entry)) (now (floats .entry)) (now (words .entry)))
+        (ofThinned r) (lent (now (out .exit)) (now (floats .exit)) (now (words .exit))) ⌝ }
+{
+    match lent::thin_reason(x, y, tolerance, out.len(), floats, words) {
+        Outcome::Refused(reason) => Thinned::Refused(reason),
+        Outcome::Done => Thinned::Kept(preserve_line(x, y, tolerance, out, floats, words)),
+    }
+}
+
+// A polygon, whose rings end where the table says: minima 4 and 5. The ring output gets such a table for the kept list.
+pub fn simplify_vw_preserve_polygon(
+    x: &[f64],
+    y: &[f64],
+    tolerance: f64,
+    rings: &[u32],
+    out: &mut [u32],
+    ends: &mut [u32],
+    floats: &mut [f64],
+    words: &mut [u32],
+) -> Thinned
+    ensures { λ r. ⌜ ThinsRings (now (x .entry)) (now (y .entry)) tolerance (now (rings .entry))
+        (lentRings (now (out .entry)) (now (ends .entry)) (now (floats .entry)) (now (words .entry)))
+        (ofThinned r) (lentRings (now (out .exit)) (now (ends .exit)) (now (floats .exit)) (now (words .exit))) ⌝ }
+{
+    match reasons::polygon_reason(x, y, tolerance, rings, out.len(), ends.len(), floats, words) {
+        Outcome::Refused(reason) => Thinned::Refused(reason),
+        Outcome::Done => Thinned::Kept(preserve_rings(
+            x,
+            y,
+            tolerance,
+            rings,
+            out,
+            ends,
+            floats,
+            words,
+        )),
+    }
+}
+
+// Lists what the rule keeps of a line, and gives how many.
+fn preserve_line(
+    x: &[f64],
+    y: &[f64],
+    tolerance: f64,
+    out: &mut [u32],
+    floats: &mut [f64],
+    words: &mut [u32],
+) -> u32
+    requires { ⌜ Ready (now x) (now y) tolerance (lent (now out) (now floats) (now words)) ⌝ }
+    ensures { λ r. ⌜ KeepsLine (now (x .entry)) (now (y .entry)) tolerance (lent (now (out .entry)) (now (floats .entry)) (now (words .entry)))
+        r (lent (now (out .exit)) (now (floats .exit)) (now (words .exit))) ⌝ }
+{
+    let m = Layout::scratch(x.len());
+    let rings = [x.len() as u32];
+    vwp_wrapper(x, y, &rings, floats, words, m, 2, 4, tolerance);
+    let count = links::list_kept(words, m, out);
+    lent::zero_scratch(floats, words, x.len());
+    count as u32
+}
+
+// Lists what the rule keeps of the rings, with their table, and gives how many.
+fn preserve_rings(
+    x: &[f64],
+    y: &[f64],
+    tolerance: f64,
+    rings: &[u32],
+    out: &mut [u32],
+    ends: &mut [u32],
+    floats: &mut [f64],
+    words: &mut [u32],
+) -> u32
+    requires { ⌜ ReadyRings (now x) (now y) tolerance (now rings) (lentRings (now out) (now ends) (now floats) (now words)) ⌝ }
+    ensures { λ r. ⌜ KeepsRings (now (x .entry)) (now (y .entry)) tolerance (now (rings .entry))
+        (lentRings (now (out .entry)) (now (ends .entry)) (now (floats .entry)) (now (words .entry)))
+        r (lentRings (now (out .exit)) (now (ends .exit)) (now (floats .exit)) (now (words .exit))) ⌝ }
+{
+    let m = Layout::scratch(x.len());
+    vwp_wrapper(x, y, rings, floats, words, m, 4, 5, tolerance);
+    let count = links::list_kept(words, m, out);
+    list_ends(words, m, rings, ends);
+    lent::zero_scratch(floats, words, x.len());
+    count as u32
+}
+
+// geo's wrapper: all rings share one memory, so that each sees the others.
+fn vwp_wrapper(
+    x: &[f64],
+    y: &[f64],
+    rings: &[u32],
+    floats: &mut [f64],
+    words: &mut [u32],
+    m: Layout,
+    first: usize,
+    second: usize,
+    tolerance: f64,
+)
+    requires { ⌜ HasPoints m (now x) (now y) × Room m (now floats) (now words) × (m .points ≤ mostPoints) × Cuts (m .points) (now rings) ⌝ }
+    ensures { λ _. ⌜ Wrapped (now (x .entry)) (now (y .entry)) (now (floats .entry)) (now (words .entry)) m (now (rings .entry)) (minima first second) tolerance
+        (now (floats .exit)) (now (words .exit)) ⌝ }
+{
+    link_rings(words, m, rings);
+    // A tolerance of zero or less keeps all.
+    if !lent::tolerance_positive(tolerance) {
+        return;
+    }
+    thin_rings(x, y, rings, floats, words, m, first, second, tolerance);
+}
+
+// Links each ring as one of which every point is kept.
+fn link_rings(words: &mut [u32], m: Layout, rings: &[u32])
+    requires { ⌜ HasLinks m (now words) × (m .points ≤ mostPoints) × Cuts (m .points) (now rings) ⌝ }
+    ensures { λ _. ⌜ LinkedAll (now (words .entry)) m (now (rings .entry)) (now (words .exit)) ⌝ }
+{
+    let mut lo = 0;
+    let mut k = 0;
+    while k < rings.len() {
+        let hi = rings[k] as usize;
+        links::link(words, m, lo, hi);
+        lo = hi;
+        k += 1;
+    }
+}
+
+// Thins the rings in the table's order.
+fn thin_rings(
+    x: &[f64],
+    y: &[f64],
+    rings: &[u32],
+    floats: &mut [f64],
+    words: &mut [u32],
+    m: Layout,
+    first: usize,
+    second: usize,
+    tolerance: f64,
+)
+    requires { ⌜ HasPoints m (now x) (now y) × Room m (now floats) (now words) × (m .points ≤ mostPoints) × Cuts (m .points) (now rings) ⌝ }
+    ensures { λ _. ⌜ AllDone (now (x .entry)) (now (y .entry)) (now (floats .entry)) (now (words .entry)) m (now (rings .entry)) (minima first second) tolerance
+        (now (floats .exit)) (now (words .exit)) ⌝ }
+{
+    let mut lo = 0;
+    let mut k = 0;
+    while k < rings.len() {
+        let hi = rings[k] as usize;
+        moves::visvalingam_preserve(x, y, floats, words, m, lo, hi, first, second, tolerance);
+        lo = hi;
+        k += 1;
+    }
+}
+
+// Lists where each ring ends in the kept list.
+fn list_ends(words: &[u32], m: Layout, rings: &[u32], ends: &mut [u32])
+    requires { ⌜ HasLinks m (now words) × (m .points ≤ mostPoints) × Cuts (m .points) (now rings) × (length (now rings) ≤ length (now ends)) ⌝ }
+    ensures { λ _. ⌜ now (ends .exit) ≡ over (map (countBelow (now (words .entry)) m) (now (rings .entry))) (now (ends .entry)) ⌝ }
+{
+    let mut k = 0;
+    while k < rings.len() {
+        let count = count_below(words, m, rings[k] as usize);
+        ends[k] = count as u32;
+        k += 1;
+    }
+}
+
+// How many points below hi are kept.
+fn count_below(words: &[u32], m: Layout, hi: usize) -> usize
+    requires { ⌜ HasLinks m (now words) × (hi ≤ m .points) ⌝ }
+    ensures { λ r. ⌜ (r ≤ hi) × (r ≡ countBelow (now (words .entry)) m hi) ⌝ }
+{
+    let mut count = 0;
+    let mut i = 0;
+    while i < hi {
+        if links::kept(words, m, i) {
+            count += 1;
+        }
+        i += 1;
+    }
+    count
+}

@@ -1,0 +1,2 @@
+-- The laws of the crate's proofs. Assumes nothing.
+pub mod Filled
