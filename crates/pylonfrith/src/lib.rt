@@ -1,10 +1,10 @@
 // The C face. A slice is a pointer and a length in elements; an answer is one u64, packed.
 ghost use mathlib.Core.Path.{_≡_};
 ghost use Rattle.rule.specs.Plain.{indexRule, pointRule};
+ghost use Rattle.rule.specs.Rings.{lineRule};
 ghost use Rattle.rule.specs.Repeat.{consecutive, anywhere};
 ghost use Rattle.rule.specs.Answers.{refusedFor, ofThinned, ofOutcome, ofStep, ofListing};
 ghost use Rattle.rule.specs.Area as memory;
-ghost use Rattle.rule.specs.Rings.{lineRule};
 ghost use Rattle.rule.specs.Whole.{Lists, lent, Thins, lentRings, ThinsRings};
 ghost use Rattle.rule.specs.SlotCalls.{Clears, Closes, Opens, Steps, Reads};
 ghost use Rattle.slots.specs.Rep.{Rep};
@@ -68,13 +68,13 @@ pub extern "C" fn pf_simplify_vw_preserve_polygon(
     tolerance: f64,
     rings: &[u32],
     out: &mut [u32],
-    ends: &mut [u32],
+    ring_out: &mut [u32],
     floats: &mut [f64],
     words: &mut [u32],
 ) -> u64
     ensures { λ n. ⌜ Packs ofThinned (λ r. ThinsRings (now (x .entry)) (now (y .entry)) tolerance (now (rings .entry))
-        (lentRings (now (out .entry)) (now (ends .entry)) (now (floats .entry)) (now (words .entry))) r
-        (lentRings (now (out .exit)) (now (ends .exit)) (now (floats .exit)) (now (words .exit)))) n ⌝ }
+        (lentRings (now (out .entry)) (now («ring_out» .entry)) (now (floats .entry)) (now (words .entry))) r
+        (lentRings (now (out .exit)) (now («ring_out» .exit)) (now (floats .exit)) (now (words .exit)))) n ⌝ }
 {
     pack_thinned(simplify_vw_preserve::simplify_vw_preserve_polygon(
         x,
@@ -82,7 +82,7 @@ pub extern "C" fn pf_simplify_vw_preserve_polygon(
         tolerance,
         rings,
         out,
-        ends,
+        ring_out,
         floats,
         words,
     ))

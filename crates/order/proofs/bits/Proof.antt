@@ -1,0 +1,26 @@
+-- `order::bits` asks for the bits of a float only where it equals itself, which a NaN does not. Assumes nothing.
+use mathlib.Core.Path.{_≡_}
+use mathlib.Core.Bool.{true, not, false≢true}
+use lib.Dec.{T}
+use lib.Ieee.{Float, nan, inf, fin, eq, isNan}
+use borrow.Author.Needs.{needs}
+use Rattle.order.proofs.bits.Statement.{statement}
+use Rattle.order.proofs.bits.Tie as tie
+
+no-nan : (v : Float) → eq v v ≡ true → T (not (isNan v))
+unfolding eq isNan
+no-nan nan e = absurd (false≢true e)
+no-nan (inf s) e = tt
+no-nan (fin s m e) h = tt
+
+float-to-bits-result : tie.Need-float-to-bits-result
+float-to-bits-result c = no-nan (c .before .args .v) (c .if1 .taken)
+
+returns : tie.Need-returns
+returns c = search needs
+
+returns-2 : tie.Need-returns-2
+returns-2 c = search needs
+
+pub bits-spec : {M : Type 1} → statement M
+bits-spec = tie.close (tie.spec float-to-bits-result returns returns-2)
