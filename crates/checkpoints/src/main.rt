@@ -150,20 +150,20 @@ fn slot_cases() {
 
 fn on_grid(v: f64) {
     io::write_all(1, b"on_grid");
-    float(v);
+    show::float(v);
     yes(grid::on_grid(v));
 }
 
 fn area(ax: f64, ay: f64, bx: f64, by: f64, cx: f64, cy: f64) {
     io::write_all(1, b"area");
-    float(grid::area(ax, ay, bx, by, cx, cy));
+    show::float(grid::area(ax, ay, bx, by, cx, cy));
     io::write_all(1, b"\n");
 }
 
 fn above(a: f64, t: f64) {
     io::write_all(1, b"above");
-    float(a);
-    float(t);
+    show::float(a);
+    show::float(t);
     yes(grid::above(a, t));
 }
 
@@ -175,24 +175,24 @@ fn sooner(s: VScore, u: VScore) {
 }
 
 fn score(s: VScore) {
-    count(s.left as u64);
-    count(s.current as u64);
-    count(s.right as u64);
-    float(s.area);
+    show::count(s.left as u64);
+    show::count(s.current as u64);
+    show::count(s.right as u64);
+    show::float(s.area);
 }
 
 fn reason(w: Reason) {
     io::write_all(1, b"reason");
-    count(number(w));
-    count(place(w));
+    show::count(number(w));
+    show::count(place(w));
     io::write_all(1, b"\n");
 }
 
 fn part(k: SlotNumber) {
     let at = Slot::new(k);
     io::write_all(1, b"part");
-    count(at.floats as u64);
-    count(at.words as u64);
+    show::count(at.floats as u64);
+    show::count(at.words as u64);
     io::write_all(1, b"\n");
 }
 
@@ -232,20 +232,6 @@ fn place(w: Reason) -> u64
         Reason::SlotIsOpen => 0,
         Reason::SlotNotOpen => 0,
     }
-}
-
-fn float(v: f64) {
-    io::write_all(1, b" ");
-    if v == v {
-        io::print_hex(1, f64::to_bits(v), 16);
-    } else {
-        io::write_all(1, b"nan");
-    }
-}
-
-fn count(n: u64) {
-    io::write_all(1, b" ");
-    io::print_decimal(1, n);
 }
 
 fn yes(b: bool) {

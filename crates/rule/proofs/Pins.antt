@@ -9,6 +9,7 @@ use lib.Ieee.{Float, nan, inf, fin, binary64, ofBits}
 use Rattle.rule.specs.Sizes.{slots, slotFloats, slotWords, areaFloats, areaWords}
 use Rattle.rule.specs.Grid.{Point, onGrid, coord, points, half, within, positive}
 use Rattle.rule.specs.Plain.{indexRule}
+use Rattle.rule.specs.Preserve.{demoted}
 use Rattle.rule.specs.Rings.{badTable, ringsFrom, joined, endsFrom, allClosed, lineRule, polygonRule}
 use Rattle.rule.specs.Area.{area}
 use Rattle.rule.specs.Reasons.{firstOffGrid, repeatReason, thinReason, polygonReason, clearReason, openReason, slotReason, readReason}
@@ -88,6 +89,11 @@ ourRows =
 pub our-rows : map (λ r. r .given) ourRows ≡ map (λ r. r .wanted) ourRows
 unfolding ourRows
 our-rows = refl
+
+-- A removal ends the demotion of both neighbours, and one that crossed demotes the left one.
+pub demoted-row : map (λ crossed. demoted (record { left = 1; current = 2; right = 3; score = 0 }) crossed (3 ∷ 1 ∷ 7 ∷ [])) (false ∷ true ∷ []) ≡ (7 ∷ []) ∷ (1 ∷ 7 ∷ []) ∷ []
+unfolding demoted
+demoted-row = refl
 
 -- ---- the grid, and exact values
 

@@ -1,11 +1,11 @@
--- `checkpoints::float` asks for the bits of a float only where it equals itself, which a NaN does not. Assumes nothing.
+-- `show::float` asks for the bits of a float only where it equals itself, which a NaN does not. Assumes nothing.
 use mathlib.Core.Path.{_≡_}
 use mathlib.Core.Bool.{true, not, false≢true}
 use lib.Dec.{T}
 use lib.Ieee.{Float, nan, inf, fin, eq, isNan}
 use borrow.Author.Needs.{needs}
-use Rattle.checkpoints.proofs.float.Statement.{statement}
-use Rattle.checkpoints.proofs.float.Tie as tie
+use Rattle.show.proofs.float.Statement.{statement}
+use Rattle.show.proofs.float.Tie as tie
 
 no-nan : (v : Float) → eq v v ≡ true → T (not (isNan v))
 unfolding eq isNan
