@@ -7,10 +7,11 @@ use Prim.Native.Nat.{ℕ}
 use lib.Ieee.{Float}
 use Rattle.rule.specs.Grid.{Point}
 use Rattle.rule.specs.Answers.{Answer, ofOutcome, ofStep, ofListing}
-use Rattle.rule.specs.Area.{Area, part}
+use Rattle.rule.specs.Area.{Area}
+use Rattle.rule.specs.Reasons.{openReason}
 use Rattle.rule.specs.Whole.{Call}
 use Rattle.rule.specs.SlotCalls.{Opens, Steps, Reads}
-use Rattle.rule.proofs.Settled.{call-settled, open-settled, step-settled, read-settled}
+use Rattle.rule.proofs.Settled.{call-settled, OpenSettled, open-settled, StepSettled, step-settled, ReadSettled, read-settled}
 use Rattle.pylonfrith.specs.Packing.{packed, areaAfter, Packs}
 
 -- equal answers, equal numbers: what the Rattle promise settles is settled for C
@@ -22,22 +23,23 @@ pub packs-settled : {A S : Type 0} {of : A → Answer} {reason : ℕ} {off : Opt
     → Packs of (λ r. Call reason off answer left before r p) m → Packs of (λ r. Call reason off answer left before r q) n → (m ≡ n) × (p ≡ q)
 packs-settled a b = let w = call-settled (a .allows) (b .allows) in (same-number a b (w .0), w .1)
 
--- open, always; step and read, wherever the slot's part is one that the calls have made
+-- open, step and read: what the Rattle promise settles of the answers packed, and equal answers are equal for C
 module _ (Rep : Area → List Point → Float → List ℕ → Type 0) (k : ℕ) (a : Area) where
   pub packs-open-settled : (us vs : List Float) (t : Float) (p q : Area) (m n : ℕ)
-      → Packs ofOutcome (λ r. Opens Rep k us vs t a r p) m → Packs ofOutcome (λ r. Opens Rep k us vs t a r q) n → m ≡ n
+      (c : Packs ofOutcome (λ r. Opens Rep k us vs t a r p) m) (d : Packs ofOutcome (λ r. Opens Rep k us vs t a r q) n)
+      → (m ≡ n) × OpenSettled (openReason k us vs t a) k (c .answer) (d .answer) p q
   packs-open-settled us vs t p q m n c d =
-      same-number c d (ap ofOutcome (open-settled Rep k us vs t a (c .answer) (d .answer) p q (c .allows) (d .allows) .answer))
+      let w = open-settled Rep k us vs t a (c .answer) (d .answer) p q (c .allows) (d .allows) in (same-number c d (ap ofOutcome (w .answer)), w)
 
-  module _ (ps : List Point) (t : Float) (ks : List ℕ) (made : Rep (part k a) ps t ks) where
-    pub packs-step-settled : (old f g : Float) (p q : Area) (m n : ℕ)
-        → Packs ofStep (λ r. Steps Rep k a r p × (f ≡ areaAfter r old)) m → Packs ofStep (λ r. Steps Rep k a r q × (g ≡ areaAfter r old)) n → (m ≡ n) × (f ≡ g)
-    packs-step-settled old f g p q m n c d =
-        let e = ap ofStep (step-settled Rep k a (c .answer) (d .answer) p q (c .allows .0) (d .allows .0) .answer ps t ks made) in
-        (same-number c d e, c .allows .1 ∙ ap (λ (r : Answer). areaAfter r old) e ∙ sym (d .allows .1))
+  pub packs-step-settled : (old f g : Float) (p q : Area) (m n : ℕ)
+      (c : Packs ofStep (λ r. Steps Rep k a r p × (f ≡ areaAfter r old)) m) (d : Packs ofStep (λ r. Steps Rep k a r q × (g ≡ areaAfter r old)) n)
+      → StepSettled Rep k a (c .answer) (d .answer) p q × (c .answer ≡ d .answer → (m ≡ n) × (f ≡ g))
+  packs-step-settled old f g p q m n c d = (
+    step-settled Rep k a (c .answer) (d .answer) p q (c .allows .0) (d .allows .0),
+    λ e. (same-number c d (ap ofStep e), c .allows .1 ∙ ap (λ (r : Answer). areaAfter r old) (ap ofStep e) ∙ sym (d .allows .1)),
+  )
 
-    pub packs-read-settled : (out p q : List ℕ) (m n : ℕ)
-        → Packs ofListing (λ r. Reads Rep k a out r p) m → Packs ofListing (λ r. Reads Rep k a out r q) n → (m ≡ n) × (p ≡ q)
-    packs-read-settled out p q m n c d =
-        let w = read-settled Rep k a out (c .answer) (d .answer) p q (c .allows) (d .allows) .whole ps t ks made in
-        (same-number c d (ap ofListing (w .0)), w .1)
+  pub packs-read-settled : (out p q : List ℕ) (m n : ℕ) (c : Packs ofListing (λ r. Reads Rep k a out r p) m) (d : Packs ofListing (λ r. Reads Rep k a out r q) n)
+      → ReadSettled Rep k a (c .answer) (d .answer) p q × (c .answer ≡ d .answer → m ≡ n)
+  packs-read-settled out p q m n c d =
+      (read-settled Rep k a out (c .answer) (d .answer) p q (c .allows) (d .allows), λ e. same-number c d (ap ofListing e))
