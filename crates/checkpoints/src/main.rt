@@ -1,7 +1,5 @@
 // Runs the leaves and the answers at corner values and prints what they give, one case a line. A float is printed as its 64 bits.
 // tools/expect-checkpoints works out by exact arithmetic what must be printed.
-ghost use mathlib.Core.Path.{_≡_};
-ghost use Rattle.rule.specs.Answers.{number, place};
 use rule::PointIndex;
 use rule::Reason;
 use rule::Slot;
@@ -11,6 +9,7 @@ use vscore::VScore;
 fn main() {
     grid_cases();
     area_cases();
+    largest_cases();
     above_cases();
     score_cases();
     reason_cases();
@@ -54,7 +53,10 @@ fn area_cases() {
     area(0.0, 0.0, 0.0, -1.0, 0.0, 0.0);
     area(-0.0, -0.0, -0.0, -0.0, -0.0, -0.0);
     area(0.0, 0.0, 1.0, 1.0, 2.0, 2.0);
-    // the largest, 2^49
+}
+
+fn largest_cases() {
+    // 2^49
     area(
         -16777216.0,
         -16777216.0,
@@ -79,7 +81,7 @@ fn area_cases() {
         16777215.0,
         16777215.0,
     );
-    // a little less than the largest
+    // a little less
     area(
         -16777216.0,
         -16777216.0,
@@ -183,8 +185,8 @@ fn score(s: VScore) {
 
 fn reason(w: Reason) {
     io::write_all(1, b"reason");
-    show::count(number(w));
-    show::count(place(w));
+    show::count(w.number() as u64);
+    show::count(w.place() as u64);
     io::write_all(1, b"\n");
 }
 
@@ -194,44 +196,6 @@ fn part(k: SlotNumber) {
     show::count(at.floats as u64);
     show::count(at.words as u64);
     io::write_all(1, b"\n");
-}
-
-// The number of a reason in document 01's table.
-fn number(w: Reason) -> u64
-    ensures { λ r. ⌜ r ≡ number w ⌝ }
-{
-    match w {
-        Reason::LengthsDiffer => 1,
-        Reason::TooManyPoints => 2,
-        Reason::OffGrid(i) => 3,
-        Reason::ToleranceNotFinite => 4,
-        Reason::RingTable => 5,
-        Reason::RingNotClosed => 6,
-        Reason::OutputShort => 7,
-        Reason::MemoryShort => 8,
-        Reason::NoSuchSlot => 9,
-        Reason::SlotIsOpen => 10,
-        Reason::SlotNotOpen => 11,
-    }
-}
-
-// The point that comes with reason 3.
-fn place(w: Reason) -> u64
-    ensures { λ r. ⌜ r ≡ place w ⌝ }
-{
-    match w {
-        Reason::LengthsDiffer => 0,
-        Reason::TooManyPoints => 0,
-        Reason::OffGrid(i) => i.0 as u64,
-        Reason::ToleranceNotFinite => 0,
-        Reason::RingTable => 0,
-        Reason::RingNotClosed => 0,
-        Reason::OutputShort => 0,
-        Reason::MemoryShort => 0,
-        Reason::NoSuchSlot => 0,
-        Reason::SlotIsOpen => 0,
-        Reason::SlotNotOpen => 0,
-    }
 }
 
 fn yes(b: bool) {

@@ -213,9 +213,6 @@ module _ {x y : Float} {a b : ℤ} {j k : ℕ} (v : Whole x a j) (w : Whole y b 
   le-whole = ap (λ (c : Bool). c || eq x y) lt-whole ∙ ap (λ (c : Bool). ltZ a b || c) eq-whole ∙ less-or-same a b
 
 module _ (x y : Float) (h : T (onGrid x)) (k : T (onGrid y)) where
-  pub lt-grid : lt x y ≡ ltZ (coord x) (coord y)
-  lt-grid = lt-whole (on-grid x h) (on-grid y k)
-
   pub eq-grid : eq x y ≡ sameℤ (coord x) (coord y)
   eq-grid = eq-whole (on-grid x h) (on-grid y k)
 

@@ -1,7 +1,8 @@
-// Whole coordinates in f64: the grid test, the area of a triangle, and its comparison with the tolerance.
+// Whole coordinates in f64: the grid test, equal points, the area of a triangle, and its comparison with the tolerance.
 ghost use mathlib.Core.Path.{_≡_};
 ghost use lib.Ieee.{lt};
 ghost use Rattle.rule.specs.Grid.{onGrid, pointOf, area2, half};
+ghost use Rattle.rule.specs.Segment.{same};
 ghost use Rattle.grid.specs.On.{On};
 
 // v is a whole number from -2^24 to 2^24.
@@ -12,6 +13,16 @@ pub fn on_grid(v: f64) -> bool
         if -16777217.0 < v {
             return std::num::nearest_i64_to_f64(std::num::truncating_f64_to_i64(v)) == v;
         }
+    }
+    false
+}
+
+// Equal by coordinates: -0.0 and 0.0 are.
+pub fn same(ax: f64, ay: f64, bx: f64, by: f64) -> bool
+    ensures { λ r. ⌜ (On ax ay → On bx by → r ≡ same (pointOf ax ay) (pointOf bx by)) ⌝ }
+{
+    if ax == bx {
+        return ay == by;
     }
     false
 }

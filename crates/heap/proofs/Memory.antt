@@ -3,11 +3,12 @@ use mathlib.Core.Path.{_≡_, refl, ap, _∙_}
 use mathlib.Core.List.{List}
 use Prim.Native.Nat.{ℕ, _+_, _*_, _≤_, _<_}
 use native.Mathlib.Omega.{arith}
-use lib.ListN.{length, getD, set, length-set}
+use lib.ListN.{length, getD, length-set}
 use lib.Seq.{getD-set-same, getD-set-other}
 use lib.Ieee.{Float, nan}
 use Rattle.layout.specs.declared.Layout.{Layout}
 use Rattle.layout.specs.Layout.{Room}
+use Rattle.layout.proofs.Words.{three-other, three-first, three-second, three-third}
 use Rattle.vscore.specs.declared.VScore.{VScore}
 use Rattle.heap.specs.Order.{upd}
 use Rattle.heap.specs.Memory.{Holds, scoreAt, putFloats, putWords, Framed}
@@ -48,30 +49,6 @@ framed-then f g = record {
   after = λ i h. g .after i h ∙ f .after i h;
 }
 
--- ---- three words set from a on
-module _ (ws : List ℕ) (a l c r : ℕ) where
-  abbrev one : List ℕ
-  one = set ws a l
-
-  abbrev two : List ℕ
-  two = set one (a + 1) c
-
-  abbrev three : List ℕ
-  three = set two (a + 2) r
-
-  other : (i : ℕ) → (i ≡ a → ⊥) → (i ≡ a + 1 → ⊥) → (i ≡ a + 2 → ⊥) → getD three i 0 ≡ getD ws i 0
-  other i x y z = getD-set-other two (a + 2) i r 0 z ∙ getD-set-other one (a + 1) i c 0 y ∙ getD-set-other ws a i l 0 x
-
-  module _ (h : a + 2 < length ws) where
-    first : getD three a 0 ≡ l
-    first = getD-set-other two (a + 2) a r 0 (λ z. omega arith) ∙ getD-set-other one (a + 1) a c 0 (λ z. omega arith) ∙ getD-set-same ws a l 0 (omega arith)
-
-    second : getD three (a + 1) 0 ≡ c
-    second = getD-set-other two (a + 2) (a + 1) r 0 (λ z. omega arith) ∙ getD-set-same one (a + 1) c 0 (simp length-set (omega arith))
-
-    third : getD three (a + 2) 0 ≡ r
-    third = getD-set-same two (a + 2) r 0 (simp length-set (omega arith))
-
 -- ---- a score stored at j
 abbrev pub Stored : List Float → List ℕ → Layout → ℕ → VScore → List Float → List ℕ → Type 0
 Stored fs ws m j s fs′ ws′ = (fs′ ≡ putFloats fs j s) × (ws′ ≡ putWords ws m j s)
@@ -82,15 +59,15 @@ module _ (fs : List Float) (ws : List ℕ) (m : Layout) (j : ℕ) (s : VScore) w
   a = m .heap + 3 * j
 
   put-other : (i : ℕ) → (i ≡ a → ⊥) → (i ≡ a + 1 → ⊥) → (i ≡ a + 2 → ⊥) → getD (putWords ws m j s) i 0 ≡ getD ws i 0
-  put-other = other ws a (s .left) (s .current) (s .right)
+  put-other = three-other ws a (a + 1) (a + 2) (s .left) (s .current) (s .right)
 
   put-at : Holds m j fs ws → (k : ℕ) → scoreAt (putFloats fs j s) (putWords ws m j s) m k ≡ upd (scoreAt fs ws m) j s k
   put-at h k =
       upd-by (λ (x : VScore). scoreAt (putFloats fs j s) (putWords ws m j s) m k ≡ x) (scoreAt fs ws m) j s k
       (λ e. ap (scoreAt (putFloats fs j s) (putWords ws m j s) m) e ∙ (λ i. record {
-        left = first ws a (s .left) (s .current) (s .right) (h .words) i;
-        current = second ws a (s .left) (s .current) (s .right) (h .words) i;
-        right = third ws a (s .left) (s .current) (s .right) (h .words) i;
+        left = three-first ws a (a + 1) (a + 2) (s .left) (s .current) (s .right) (omega (arith, h .words)) (λ z. omega arith) (λ z. omega arith) i;
+        current = three-second ws a (a + 1) (a + 2) (s .left) (s .current) (s .right) (omega (arith, h .words)) (λ z. omega arith) i;
+        right = three-third ws a (a + 1) (a + 2) (s .left) (s .current) (s .right) (h .words) i;
         area = getD-set-same fs j (s .area) nan (h .area) i;
       }))
       (λ ne i. record {

@@ -39,14 +39,6 @@ pub record Pushed (fs : List Float) (ws : List ℕ) (m : Layout) (len : ℕ) (s 
   pub from : (k : ℕ) → k < suc len → (scoreAt fs′ ws′ m k ≡ s) ⊎ Among len (scoreAt fs ws m) (scoreAt fs′ ws′ m k)
   pub heap : (σ : Scale) → Faithful σ → AllProper σ len (scoreAt fs ws m) → Proper σ s → Heap σ len (scoreAt fs ws m) → Heap σ (suc len) (scoreAt fs′ ws′ m)
 
--- the place r is c or c + 1, below n, and of these the first
-pub record FirstOf (fs : List Float) (ws : List ℕ) (m : Layout) (c n r : ℕ) : Type 0 where
-  pub low : c ≤ r
-  pub high : r ≤ c + 1
-  pub within : r < n
-  pub first : (σ : Scale) → Faithful σ → ((k : ℕ) → c ≤ k → k < n → Proper σ (scoreAt fs ws m k))
-      → (k : ℕ) → c ≤ k → k ≤ c + 1 → k < n → Le σ (scoreAt fs ws m r) (scoreAt fs ws m k)
-
 -- s was the first of the heap of n + 1 places, and is taken off: the old scores are the new ones and s
 pub record Popped (fs : List Float) (ws : List ℕ) (m : Layout) (n : ℕ) (s : VScore) (fs′ : List Float) (ws′ : List ℕ) : Type 0 where
   pub root : s ≡ scoreAt fs ws m 0

@@ -1,3 +1,4 @@
 pub mod Order
 pub mod Memory
 pub mod Heap
+pub mod Children

@@ -3,8 +3,12 @@ use mathlib.Core.Bool.{Bool, true, false, cond}
 use Prim.Native.Nat.{ℕ, zero, suc, _+_, _-_, _/_, _<_}
 use lib.Dec.{eqb}
 
+-- places below a place
+abbrev pub children : ℕ
+children = 4
+
 abbrev pub parent : ℕ → ℕ
-parent k = (k - 1) / 2
+parent k = (k - 1) / children
 
 -- h with a at j
 unfoldable pub upd : {A : Type 0} → (ℕ → A) → ℕ → A → ℕ → A

@@ -3,4 +3,4 @@ pub mod Rows
 pub mod Verdict
 pub mod Points
 pub mod Zeros
-pub mod Over
+pub mod Whole

@@ -1,9 +1,9 @@
 -- What it says of the input that no reason applies. Assumes nothing.
-use mathlib.Core.Path.{_≡_, refl, sym, _∙_}
-use mathlib.Core.Bool.{Bool, true, false, _||_, cond, true≢false}
+use mathlib.Core.Path.{_≡_, refl, sym}
+use mathlib.Core.Bool.{Bool, true, false, _&&_, _||_, cond, true≢false}
 use mathlib.Core.List.{List, [], _∷_, _++_}
 use mathlib.Core.Option.{Option, none, some}
-use Prim.Native.Nat.{ℕ, suc, _≤_}
+use Prim.Native.Nat.{ℕ, zero, suc, _≤_}
 use native.Mathlib.Omega.{arith}
 use lib.Dec.{ltb, eqb}
 use lib.ListN.{length}
@@ -11,18 +11,42 @@ use lib.Ieee.{Float}
 use borrow.Author.Tests.{eqb-true, ltb-false, not-false}
 use Rattle.rule.specs.Sizes.{mostPoints, scratchFloats, scratchWords}
 use Rattle.rule.specs.Grid.{isFinite}
-use Rattle.rule.specs.Reasons.{Row, firstOf, isSome, firstOffGrid, lengthsDiffer, tooManyPoints, someOffGrid, toleranceNotFinite, outputShort, scratchShort, lineRows, repeatReason, thinReason}
+use Rattle.rule.specs.Reasons.{Row, firstOf, isSome, firstOffGrid, lengthsDiffer, tooManyPoints, someOffGrid, outputShort, scratchShort, lineRows, repeatReason, thinReason}
 use Rattle.rule.specs.Whole.{Lent}
+use Rattle.lent.specs.Verdict.{memoryRows}
 use Rattle.lent.specs.Fine.{Fine, Ready}
 use Rattle.lent.proofs.Scan.{on-all}
 
--- a row with a number was passed
-pub passed : (r : Row) (n : ℕ) (rs : List Row) → r .number ≡ suc n → firstOf (r ∷ rs) ≡ 0 → (r .applies ≡ false) × (firstOf rs ≡ 0)
-passed r n rs d e = go (r .applies) refl e
+abbrev pub above0 : ℕ → Bool
+above0 zero = false
+above0 (suc n) = true
+
+-- every row has a number
+abbrev pub numbered : List Row → Bool
+numbered [] = true
+numbered (r ∷ rs) = above0 (r .number) && numbered rs
+
+abbrev pub NoneApplies : List Row → Type 0
+NoneApplies [] = Unit {0}
+NoneApplies (r ∷ rs) = (r .applies ≡ false) × NoneApplies rs
+
+pub none-applies : (rs : List Row) → numbered rs ≡ true → firstOf rs ≡ 0 → NoneApplies rs
+none-applies [] n e = tt
+none-applies (r ∷ rs) n e = go (r .applies) (r .number) refl e n (none-applies rs)
   where
-    go : (b : Bool) → r .applies ≡ b → cond b (r .number) (firstOf rs) ≡ 0 → (r .applies ≡ false) × (firstOf rs ≡ 0)
-    go true f g = absurd (omega arith)
-    go false f g = (f, g)
+    go : (b : Bool) (k : ℕ) → r .applies ≡ b → cond b k (firstOf rs) ≡ 0 → (above0 k && numbered rs) ≡ true
+        → (numbered rs ≡ true → firstOf rs ≡ 0 → NoneApplies rs) → (r .applies ≡ false) × NoneApplies rs
+    go false (suc k) f g n h = (f, h n g)
+    go b zero f g n h = absurd (true≢false (sym n))
+    go true (suc k) f g n h = absurd (omega arith)
+
+-- and then the rows after them decide
+pub rows-then : (rs ss : List Row) → numbered rs ≡ true → firstOf rs ≡ 0 → firstOf (rs ++ ss) ≡ firstOf ss
+rows-then rs ss n e = go rs (none-applies rs n e)
+  where
+    go : (qs : List Row) → NoneApplies qs → firstOf (qs ++ ss) ≡ firstOf ss
+    go [] a = refl
+    go (q ∷ qs) a = rw (a .0) (go qs (a .1))
 
 nowhere : (o : Option ℕ) → isSome o ≡ false → o ≡ none
 nowhere none e = refl
@@ -33,52 +57,25 @@ fine-of us vs a b c =
     let l = eqb-true (length us) (length vs) (not-false (eqb (length us) (length vs)) a) in
     record { level = l; few = ltb-false mostPoints (length us) b; on = on-all us vs (nowhere (firstOffGrid us vs) c) l }
 
--- no reason of a line with a tolerance, and what comes after
+-- no reason of a line with a tolerance
 module _ (us vs : List Float) (t : Float) (e : firstOf (lineRows us vs t) ≡ 0) where
-  line-passed : (lengthsDiffer us vs .applies ≡ false) × (tooManyPoints us .applies ≡ false) × (toleranceNotFinite t .applies ≡ false)
-      × (someOffGrid us vs .applies ≡ false)
-  line-passed =
-      let a = passed (lengthsDiffer us vs) 0 (tooManyPoints us ∷ toleranceNotFinite t ∷ someOffGrid us vs ∷ []) refl e in
-      let b = passed (tooManyPoints us) 1 (toleranceNotFinite t ∷ someOffGrid us vs ∷ []) refl (a .1) in
-      let c = passed (toleranceNotFinite t) 3 (someOffGrid us vs ∷ []) refl (b .1) in
-      let d = passed (someOffGrid us vs) 2 [] refl (c .1) in
-      (a .0, b .0, c .0, d .0)
-
   pub line-fine : Fine us vs
-  line-fine = fine-of us vs (line-passed .0) (line-passed .1) (line-passed .3)
+  line-fine = let a = none-applies (lineRows us vs t) refl e in fine-of us vs (a .0) (a .1 .0) (a .1 .1 .1 .0)
 
   pub line-finite : isFinite t ≡ true
-  line-finite = not-false (isFinite t) (line-passed .2)
-
-  pub line-then : (rs : List Row) → firstOf (lineRows us vs t ++ rs) ≡ firstOf rs
-  line-then rs = rw (line-passed .0, line-passed .1, line-passed .2, line-passed .3)
-
--- where there is no reason, there is none among the rows that come first
-pub first-none : (rs ss : List Row) → firstOf (rs ++ ss) ≡ 0 → firstOf rs ≡ 0
-first-none [] ss e = refl
-first-none (r ∷ rs) ss e = go (r .applies) e (first-none rs ss)
-  where
-    go : (b : Bool) → cond b (r .number) (firstOf (rs ++ ss)) ≡ 0 → (firstOf (rs ++ ss) ≡ 0 → firstOf rs ≡ 0) → cond b (r .number) (firstOf rs) ≡ 0
-    go true f h = f
-    go false f h = h f
+  line-finite = not-false (isFinite t) (none-applies (lineRows us vs t) refl e .1 .1 .0)
 
 -- no reason of a call on repeated points
 module _ (us vs : List Float) (room : ℕ) (e : repeatReason us vs room ≡ 0) where
-  repeat-passed : (lengthsDiffer us vs .applies ≡ false) × (tooManyPoints us .applies ≡ false) × (someOffGrid us vs .applies ≡ false)
-      × (outputShort room (length us) .applies ≡ false)
+  unapplied : NoneApplies (lengthsDiffer us vs ∷ tooManyPoints us ∷ someOffGrid us vs ∷ outputShort room (length us) ∷ [])
   unfolding repeatReason
-  repeat-passed =
-      let a = passed (lengthsDiffer us vs) 0 (tooManyPoints us ∷ someOffGrid us vs ∷ outputShort room (length us) ∷ []) refl e in
-      let b = passed (tooManyPoints us) 1 (someOffGrid us vs ∷ outputShort room (length us) ∷ []) refl (a .1) in
-      let c = passed (someOffGrid us vs) 2 (outputShort room (length us) ∷ []) refl (b .1) in
-      let d = passed (outputShort room (length us)) 6 [] refl (c .1) in
-      (a .0, b .0, c .0, d .0)
+  unapplied = none-applies (lengthsDiffer us vs ∷ tooManyPoints us ∷ someOffGrid us vs ∷ outputShort room (length us) ∷ []) refl e
 
   pub repeat-fine : Fine us vs
-  repeat-fine = fine-of us vs (repeat-passed .0) (repeat-passed .1) (repeat-passed .2)
+  repeat-fine = fine-of us vs (unapplied .0) (unapplied .1 .0) (unapplied .1 .1 .0)
 
   pub repeat-room : length us ≤ room
-  repeat-room = ltb-false room (length us) (repeat-passed .3)
+  repeat-room = ltb-false room (length us) (unapplied .1 .1 .1 .0)
 
 -- neither of two lent slices is short: what 7 and 8 say of an output, a scratch, a work area
 pub room-for : (m n p q : ℕ) → (ltb m n || ltb p q) ≡ false → (n ≤ m) × (q ≤ p)
@@ -89,21 +86,17 @@ room-for m n p q e = go (ltb m n) (ltb p q) refl refl e
     go false true f g e = absurd (true≢false e)
     go true b f g e = absurd (true≢false e)
 
+-- no reason of a line, room in the output, and no reason of the scratch
+pub ready-of : (us vs : List Float) (t : Float) (m : Lent) (rs : List Row) → NoneApplies (lineRows us vs t ++ rs) → length us ≤ length (m .out)
+    → scratchShort (length (m .floats)) (length (m .words)) (length us) .applies ≡ false → Ready us vs t m
+ready-of us vs t m rs a h s =
+    let short = room-for (length (m .floats)) (scratchFloats (length us)) (length (m .words)) (scratchWords (length us)) s in
+    record { fine = fine-of us vs (a .0) (a .1 .0) (a .1 .1 .1 .0); finite = not-false (isFinite t) (a .1 .1 .0); room = h; floats = short .0; words = short .1 }
+
 -- no reason of a call that thins a line
 pub thin-ready : (us vs : List Float) (t : Float) (m : Lent) → thinReason us vs t (length (m .out)) (length (m .floats)) (length (m .words)) ≡ 0 → Ready us vs t m
 unfolding thinReason
 thin-ready us vs t m e =
-    let n = length us in
-    let output = outputShort (length (m .out)) n in
-    let scratch = scratchShort (length (m .floats)) (length (m .words)) n in
-    let line = first-none (lineRows us vs t) (output ∷ scratch ∷ []) e in
-    let a = passed output 6 (scratch ∷ []) refl (sym (line-then us vs t line (output ∷ scratch ∷ [])) ∙ e) in
-    let b = passed scratch 7 [] refl (a .1) in
-    let short = room-for (length (m .floats)) (scratchFloats n) (length (m .words)) (scratchWords n) (b .0) in
-    record {
-      fine = line-fine us vs t line;
-      finite = line-finite us vs t line;
-      room = ltb-false (length (m .out)) n (a .0);
-      floats = short .0;
-      words = short .1;
-    }
+    let more = memoryRows (ltb (length (m .out)) (length us)) (length (m .floats)) (length (m .words)) (length us) in
+    let a = none-applies (lineRows us vs t ++ more) refl e in
+    ready-of us vs t m more a (ltb-false (length (m .out)) (length us) (a .1 .1 .1 .1 .0)) (a .1 .1 .1 .1 .1 .0)

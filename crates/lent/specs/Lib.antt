@@ -1,3 +1,4 @@
 pub mod Found
 pub mod Verdict
 pub mod Fine
+pub mod Keeps

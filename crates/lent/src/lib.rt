@@ -1,18 +1,23 @@
-// Lent memory: the reasons of a call in order, the tests behind them, one function a row of document 01's table; zeroing, and listing all points.
-// Each test is exact for every input.
+// Lent memory: the reasons of a call in order, the tests behind them, one function a row of document 01's table; equal points; and how a call that
+// thins ends, with the list and zeros in the scratch. Each test is exact for every input.
 ghost use mathlib.Core.Path.{_≡_};
-ghost use Prim.Native.Nat.{_≤_};
+ghost use Prim.Native.Nat.{_≤_, _<_};
 ghost use lib.ListN.{length};
 ghost use Rattle.rule.specs.Answers.{ofOutcome};
 ghost use Rattle.rule.specs.Sizes.{mostPoints, scratchFloats, scratchWords};
-ghost use Rattle.rule.specs.Grid.{positive};
-ghost use Rattle.rule.specs.Plain.{indices};
+ghost use Rattle.rule.specs.Grid.{points, at, positive};
+ghost use Rattle.rule.specs.Segment.{same};
 ghost use Rattle.rule.specs.Area.{area, zeroFloat, cleared};
 ghost use Rattle.rule.specs.Reasons.{lengthsDiffer, tooManyPoints, toleranceNotFinite, outputShort, scratchShort, areaShort, noSuchSlot};
 ghost use Rattle.rule.specs.Reasons.{firstOffGrid, firstOf, lineRows, repeatReason, thinReason};
-ghost use Rattle.rule.specs.Whole.{over};
+ghost use Rattle.rule.specs.Whole.{lent};
+ghost use Rattle.layout.specs.Layout.{scratchOf};
+ghost use Rattle.links.specs.Ring.{allUnmarked};
 ghost use Rattle.lent.specs.Found.{ofFound};
-ghost use Rattle.lent.specs.Verdict.{verdict};
+ghost use Rattle.lent.specs.Verdict.{verdict, memoryRows};
+ghost use Rattle.lent.specs.Fine.{Fine};
+ghost use Rattle.lent.specs.Keeps.{Keeps};
+use layout::Layout;
 use rule::Line;
 use rule::Outcome;
 use rule::PointIndex;
@@ -40,18 +45,12 @@ pub fn line_reason(x: &[f64], y: &[f64], tolerance: f64) -> Outcome
     Outcome::Done
 }
 
-// Of the calls on repeated points: 1, 2, 3, 7.
+// Of the calls on repeated points: 1, 2, 3, 7. They take no tolerance: 0 is one that 4 lets pass.
 pub fn repeat_reason(x: &[f64], y: &[f64], room: usize) -> Outcome
     ensures { λ r. ⌜ ofOutcome r ≡ verdict (repeatReason (now (x .entry)) (now (y .entry)) room) (firstOffGrid (now (x .entry)) (now (y .entry))) ⌝ }
 {
-    if lengths_differ(x, y) {
-        return Outcome::Refused(Reason::LengthsDiffer);
-    }
-    if too_many_points(x) {
-        return Outcome::Refused(Reason::TooManyPoints);
-    }
-    if let Found::At(off) = first_off_grid(x, y) {
-        return Outcome::Refused(Reason::OffGrid(PointIndex(off as u32)));
+    if let Outcome::Refused(reason) = line_reason(x, y, 0.0) {
+        return Outcome::Refused(reason);
     }
     if output_short(room, x.len()) {
         return Outcome::Refused(Reason::OutputShort);
@@ -74,8 +73,14 @@ pub fn thin_reason(
     if let Outcome::Refused(reason) = line_reason(x, y, tolerance) {
         return Outcome::Refused(reason);
     }
-    let points = x.len();
-    if output_short(room, points) {
+    memory_reason(output_short(room, x.len()), floats, words, x.len())
+}
+
+// Of what is lent to a call that thins so many points, whose output is short or not: 7, 8.
+pub fn memory_reason(short: bool, floats: &[f64], words: &[u32], points: usize) -> Outcome
+    ensures { λ r. ⌜ ((off : _) → ofOutcome r ≡ verdict (firstOf (memoryRows short (length (now (floats .entry))) (length (now (words .entry))) points)) off) ⌝ }
+{
+    if short {
         return Outcome::Refused(Reason::OutputShort);
     }
     if scratch_short(floats, words, points) {
@@ -206,12 +211,21 @@ pub fn zero_scratch(floats: &mut [f64], words: &mut [u32], points: usize)
     zero_words(words, Scratch::WORDS * points);
 }
 
-// Lists n points from the start of out.
-pub fn list_all(out: &mut [u32], n: usize)
-    requires { ⌜ (n ≤ mostPoints) × (n ≤ length (now out)) ⌝ }
-    ensures { λ _. ⌜ now (out .exit) ≡ over (indices 0 n) (now (out .entry)) ⌝ }
+// How a call that thins so many points ends: the points left with no mark are listed, the scratch is zeroed. Gives how many.
+pub fn finish(points: usize, out: &mut [u32], floats: &mut [f64], words: &mut [u32]) -> u32
+    requires { ⌜ (points ≤ mostPoints) × (points ≤ length (now out)) × (scratchFloats points ≤ length (now floats)) × (scratchWords points ≤ length (now words)) ⌝ }
+    ensures { λ r. ⌜ Keeps points (allUnmarked (now (words .entry)) (scratchOf points)) (lent (now (out .entry)) (now (floats .entry)) (now (words .entry)))
+        r (lent (now (out .exit)) (now (floats .exit)) (now (words .exit))) ⌝ }
 {
-    for k in 0..n {
-        out[k] = k as u32;
-    }
+    let count = links::list_kept(words, Layout::scratch(points), out);
+    zero_scratch(floats, words, points);
+    count as u32
+}
+
+// Points i and j are equal by coordinates.
+pub fn same_point(x: &[f64], y: &[f64], i: usize, j: usize) -> bool
+    requires { ⌜ Fine (now x) (now y) × (i < length (now x)) × (j < length (now x)) ⌝ }
+    ensures { λ r. ⌜ r ≡ same (at (points (now (x .entry)) (now (y .entry))) i) (at (points (now (x .entry)) (now (y .entry))) j) ⌝ }
+{
+    grid::same(x[i], y[i], x[j], y[j])
 }

@@ -5,3 +5,4 @@ pub mod Ring
 pub mod Memory
 pub mod Rings
 pub mod Listing
+pub mod Tests

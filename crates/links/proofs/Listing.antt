@@ -1,16 +1,16 @@
 -- The walks over the marks: the points without a mark, counted and listed. Assumes nothing.
 use mathlib.Core.Path.{_≡_, refl, sym, ap, _∙_, subst}
 use mathlib.Core.Bool.{Bool, true, false, cond}
-use mathlib.Core.List.{List, [], _∷_, _++_, append-assoc, append-nil}
-use Prim.Native.Nat.{ℕ, suc, _+_, _-_, _≤_, _<_, min}
+use mathlib.Core.List.{List, [], _∷_, _++_, append-nil}
+use Prim.Native.Nat.{ℕ, _+_, _≤_, _<_, min}
 use native.Mathlib.Nat.{zero-add}
-use native.Mathlib.Numerals.{add-one}
 use native.Mathlib.Omega.{arith}
 use lib.Dec.{eqb}
-use lib.ListN.{length, set, take, drop, length-append, length-take, length-set}
-use lib.Seq.{take-all, take-nil, take-append-le, drop-cons, set-append-seam}
+use lib.ListN.{length, set, take, length-append, length-take, length-set}
+use lib.Seq.{take-all, take-nil, take-append-le}
 use Rattle.layout.specs.declared.Layout.{Layout}
 use Rattle.rule.specs.Whole.{over}
+use Rattle.rule.proofs.Over.{over-more}
 use Rattle.links.specs.Words.{markAt}
 use Rattle.links.specs.Ring.{keptFrom, allUnmarked}
 use Rattle.links.specs.Calls.{Listed}
@@ -59,13 +59,6 @@ pub counting-as : {mark : ℕ → ℕ} {n i c c′ : ℕ} → c′ ≡ c → Cou
 counting-as {mark} {n} {i} e s = subst (Counting mark n i) (sym e) s
 
 -- ---- listed
-
-over-more : (ks out : List ℕ) (i : ℕ) → length ks < length out → set (over ks out) (length ks) i ≡ over (ks ++ (i ∷ [])) out
-over-more ks out i h =
-    let e : drop (length ks) out ≡ _ = drop-cons out (length ks) 0 h in
-    ap (λ (l : List ℕ). set (ks ++ l) (length ks) i) e ∙ set-append-seam ks _ (drop (suc (length ks)) out) i
-    ∙ sym (append-assoc ks (i ∷ []) (drop (suc (length ks)) out))
-    ∙ ap (λ (k : ℕ). (ks ++ (i ∷ [])) ++ drop k out) (sym (length-append ks (i ∷ []) ∙ add-one (length ks)))
 
 pub record Listing (mark : ℕ → ℕ) (n : ℕ) (out out′ : List ℕ) (i c : ℕ) : Type 0 where
   pub few : c ≤ i

@@ -4,33 +4,14 @@ use mathlib.Core.List.{List}
 use mathlib.Core.Logic.{_⊎_, ⊎-elim}
 use Prim.Native.Nat.{ℕ, _+_, _*_, _≤_, _<_}
 use native.Mathlib.Omega.{arith}
-use lib.ListN.{length, getD, set, length-set}
-use lib.Seq.{getD-set-same, getD-set-other}
+use lib.ListN.{getD}
 use Rattle.layout.specs.declared.Layout.{Layout}
+use Rattle.layout.proofs.Words.{three-other, three-first, three-second, three-third}
 use Rattle.rule.specs.Plain.{without}
 use Rattle.vscore.specs.declared.VScore.{VScore}
-use Rattle.links.specs.Words.{HasLinks, previousAt, nextAt, markAt, linkedAs, unlinked, SameLinks, OnlyLinks}
+use Rattle.links.specs.Words.{HasLinks, previousAt, nextAt, markAt, written, linkedAs, unlinked, SameLinks, OnlyLinks}
 use Rattle.links.specs.Ring.{Triple, Ring, Live}
 use Rattle.links.proofs.Ring.{ring-below, linked-same, taken-out}
-
--- ---- three words written, at three places
-
-module _ (ws : List ℕ) (a b c : ℕ) (u v w : ℕ) where
-  abbrev three : List ℕ
-  three = set (set (set ws a u) b v) c w
-
-  three-other : (j : ℕ) → (j ≡ a → ⊥) → (j ≡ b → ⊥) → (j ≡ c → ⊥) → getD three j 0 ≡ getD ws j 0
-  three-other j p q r = getD-set-other (set (set ws a u) b v) c j w 0 r ∙ getD-set-other (set ws a u) b j v 0 q ∙ getD-set-other ws a j u 0 p
-
-  module _ (la : a < length ws) (lb : b < length ws) (lc : c < length ws) (ab : a ≡ b → ⊥) (ac : a ≡ c → ⊥) (bc : b ≡ c → ⊥) where
-    three-first : getD three a 0 ≡ u
-    three-first = getD-set-other (set (set ws a u) b v) c a w 0 ac ∙ getD-set-other (set ws a u) b a v 0 ab ∙ getD-set-same ws a u 0 la
-
-    three-second : getD three b 0 ≡ v
-    three-second = getD-set-other (set (set ws a u) b v) c b w 0 bc ∙ getD-set-same (set ws a u) b v 0 (simp length-set lb)
-
-    three-third : getD three c 0 ≡ w
-    three-third = getD-set-same (set (set ws a u) b v) c w 0 (simp length-set lc)
 
 -- ---- memory that is the same where it counts
 
@@ -70,12 +51,40 @@ only-then f g = record {
   after = λ j h. g .after j h ∙ f .after j h;
 }
 
+-- ---- the previous point of a, the next of b and the mark of c written
+
+module _ (ws : List ℕ) (m : Layout) (a p b q c k : ℕ) where
+  written-other : (j : ℕ) → (j ≡ m .links + a → ⊥) → (j ≡ m .links + m .points + b → ⊥) → (j ≡ m .links + 2 * m .points + c → ⊥)
+      → getD (written ws m a p b q c k) j 0 ≡ getD ws j 0
+  written-other = three-other ws (m .links + a) (m .links + m .points + b) (m .links + 2 * m .points + c) p q k
+
+  record Written : Type 0 where
+    previous : previousAt (written ws m a p b q c k) m a ≡ p
+    next : nextAt (written ws m a p b q c k) m b ≡ q
+    mark : markAt (written ws m a p b q c k) m c ≡ k
+
+  written-is : HasLinks m ws → a < m .points → b < m .points → c < m .points → Written
+  written-is room la lb lc = record {
+    previous = three-first ws first second third p q k (omega arith) (λ e. omega arith) (λ e. omega arith);
+    next = three-second ws first second third p q k (omega arith) (λ e. omega arith);
+    mark = three-third ws first second third p q k (omega arith);
+  }
+    where
+      first : ℕ
+      first = m .links + a
+
+      second : ℕ
+      second = m .links + m .points + b
+
+      third : ℕ
+      third = m .links + 2 * m .points + c
+
 -- ---- a point kept between two
 
 module _ (ws : List ℕ) (m : Layout) (i p q : ℕ) where
   linked-at : (j : ℕ) → (j ≡ m .links + i → ⊥) → (j ≡ m .links + m .points + i → ⊥) → (j ≡ m .links + 2 * m .points + i → ⊥)
       → getD (linkedAs ws m i p q) j 0 ≡ getD ws j 0
-  linked-at = three-other ws (m .links + i) (m .links + m .points + i) (m .links + 2 * m .points + i) p q 0
+  linked-at = written-other ws m i p i q i 0
 
   pub linked-others : (k : ℕ) → k < m .points → i < m .points → (k ≡ i → ⊥) → SameLinks ws m (linkedAs ws m i p q) k
   linked-others k g l ne = record {
@@ -93,34 +102,28 @@ module _ (ws : List ℕ) (m : Layout) (i p q : ℕ) where
 
   module _ (room : HasLinks m ws) (l : i < m .points) where
     pub linked-previous : previousAt (linkedAs ws m i p q) m i ≡ p
-    linked-previous =
-        three-first ws (m .links + i) (m .links + m .points + i) (m .links + 2 * m .points + i) p q 0
-        (omega arith) (omega arith) (omega arith) (λ e. omega arith) (λ e. omega arith) (λ e. omega arith)
+    linked-previous = written-is ws m i p i q i 0 room l l l .previous
 
     pub linked-next : nextAt (linkedAs ws m i p q) m i ≡ q
-    linked-next =
-        three-second ws (m .links + i) (m .links + m .points + i) (m .links + 2 * m .points + i) p q 0
-        (omega arith) (omega arith) (omega arith) (λ e. omega arith) (λ e. omega arith) (λ e. omega arith)
+    linked-next = written-is ws m i p i q i 0 room l l l .next
 
     pub linked-mark : markAt (linkedAs ws m i p q) m i ≡ 0
-    linked-mark =
-        three-third ws (m .links + i) (m .links + m .points + i) (m .links + 2 * m .points + i) p q 0
-        (omega arith) (omega arith) (omega arith) (λ e. omega arith) (λ e. omega arith) (λ e. omega arith)
+    linked-mark = written-is ws m i p i q i 0 room l l l .mark
 
 -- ---- s's point taken out
 
 module _ (ws : List ℕ) (m : Layout) (s : VScore) where
-  unlinked-at : (j : ℕ) → (j ≡ m .links + m .points + s .left → ⊥) → (j ≡ m .links + s .right → ⊥) → (j ≡ m .links + 2 * m .points + s .current → ⊥)
+  unlinked-at : (j : ℕ) → (j ≡ m .links + s .right → ⊥) → (j ≡ m .links + m .points + s .left → ⊥) → (j ≡ m .links + 2 * m .points + s .current → ⊥)
       → getD (unlinked ws m s) j 0 ≡ getD ws j 0
-  unlinked-at = three-other ws (m .links + m .points + s .left) (m .links + s .right) (m .links + 2 * m .points + s .current) (s .right) (s .left) 1
+  unlinked-at = written-other ws m (s .right) (s .left) (s .left) (s .right) (s .current) 1
 
   -- only the links of its own ring may differ
   pub unlinked-only : (lo hi : ℕ) → hi ≤ m .points → (lo ≤ s .left) × (s .left < hi) → (lo ≤ s .current) × (s .current < hi) → (lo ≤ s .right) × (s .right < hi)
       → OnlyLinks ws m lo hi (unlinked ws m s)
   unlinked-only lo hi to pl pc pr = record {
     others = λ i l w. record {
-      previous = unlinked-at (m .links + i) (λ e. omega arith) (λ e. out i w (s .right) pr (omega arith)) (λ e. omega arith);
-      next = unlinked-at (m .links + m .points + i) (λ e. out i w (s .left) pl (omega arith)) (λ e. omega arith) (λ e. omega arith);
+      previous = unlinked-at (m .links + i) (λ e. out i w (s .right) pr (omega arith)) (λ e. omega arith) (λ e. omega arith);
+      next = unlinked-at (m .links + m .points + i) (λ e. omega arith) (λ e. out i w (s .left) pl (omega arith)) (λ e. omega arith);
       mark = unlinked-at (m .links + 2 * m .points + i) (λ e. omega arith) (λ e. omega arith) (λ e. out i w (s .current) pc (omega arith));
     };
     before = λ j h. unlinked-at j (λ e. omega arith) (λ e. omega arith) (λ e. omega arith);
@@ -136,13 +139,8 @@ module _ (ws : List ℕ) (m : Layout) (s : VScore) where
         let l = ring-below h (s .left) (v .low .from) in
         let c = ring-below h (s .current) (v .low .to) in
         let r = ring-below h (s .right) (v .high .to) in
-        let first = m .links + m .points + s .left in
-        let second = m .links + s .right in
-        let third = m .links + 2 * m .points + s .current in
-        taken-out h (s .left) (s .current) (s .right) v
-        (three-second ws first second third (s .right) (s .left) 1 (omega arith) (omega arith) (omega arith) (λ e. omega arith) (λ e. omega arith) (λ e. omega arith))
-        (λ i g ne. unlinked-at (m .links + i) (λ e. omega arith) (λ e. ne (omega arith)) (λ e. omega arith))
-        (three-first ws first second third (s .right) (s .left) 1 (omega arith) (omega arith) (omega arith) (λ e. omega arith) (λ e. omega arith) (λ e. omega arith))
-        (λ i g ne. unlinked-at (m .links + m .points + i) (λ e. ne (omega arith)) (λ e. omega arith) (λ e. omega arith))
-        (three-third ws first second third (s .right) (s .left) 1 (omega arith) (omega arith) (omega arith) (λ e. omega arith) (λ e. omega arith) (λ e. omega arith))
+        let now = written-is ws m (s .right) (s .left) (s .left) (s .right) (s .current) 1 room (omega arith) (omega arith) (omega arith) in
+        taken-out h (s .left) (s .current) (s .right) v (now .previous)
+        (λ i g ne. unlinked-at (m .links + i) (λ e. ne (omega arith)) (λ e. omega arith) (λ e. omega arith)) (now .next)
+        (λ i g ne. unlinked-at (m .links + m .points + i) (λ e. omega arith) (λ e. ne (omega arith)) (λ e. omega arith)) (now .mark)
         (λ i g ne. unlinked-at (m .links + 2 * m .points + i) (λ e. omega arith) (λ e. omega arith) (λ e. ne (omega arith)))

@@ -20,14 +20,17 @@ nextAt ws m i = getD ws (m .links + m .points + i) 0
 abbrev pub markAt : List ℕ → Layout → ℕ → ℕ
 markAt ws m i = getD ws (m .links + 2 * m .points + i) 0
 
+-- p is the previous point of a, q the next of b, and k the mark of c
+abbrev pub written : List ℕ → Layout → ℕ → ℕ → ℕ → ℕ → ℕ → ℕ → List ℕ
+written ws m a p b q c k = set (set (set ws (m .links + a) p) (m .links + m .points + b) q) (m .links + 2 * m .points + c) k
+
 -- point i is kept between p and q
 abbrev pub linkedAs : List ℕ → Layout → ℕ → ℕ → ℕ → List ℕ
-linkedAs ws m i p q = set (set (set ws (m .links + i) p) (m .links + m .points + i) q) (m .links + 2 * m .points + i) 0
+linkedAs ws m i p q = written ws m i p i q i 0
 
 -- s's point is taken out: its neighbours become each other's, and it is marked
 abbrev pub unlinked : List ℕ → Layout → VScore → List ℕ
-unlinked ws m s =
-    set (set (set ws (m .links + m .points + s .left) (s .right)) (m .links + s .right) (s .left)) (m .links + 2 * m .points + s .current) 1
+unlinked ws m s = written ws m (s .right) (s .left) (s .left) (s .right) (s .current) 1
 
 -- ---- what stays
 

@@ -4,8 +4,8 @@ ghost use Prim.Native.Nat.{_<_, _≤_};
 ghost use lib.Dec.{eqb};
 ghost use lib.ListN.{length};
 ghost use Rattle.rule.specs.Sizes.{mostPoints};
-ghost use Rattle.links.specs.Words.{HasLinks, previousAt, nextAt, markAt, linkedAs, unlinked};
-ghost use Rattle.links.specs.Ring.{allUnmarked};
+ghost use Rattle.links.specs.Words.{HasLinks, previousAt, nextAt, markAt, written, linkedAs, unlinked};
+ghost use Rattle.links.specs.Ring.{keptFrom, allUnmarked};
 ghost use Rattle.links.specs.Calls.{back, ahead, Joined, LiveIs, Listed};
 use layout::Layout;
 use vscore::VScore;
@@ -32,9 +32,7 @@ pub fn unlink(words: &mut [u32], m: Layout, s: VScore)
     let l = s.left as usize;
     let c = s.current as usize;
     let r = s.right as usize;
-    words[m.links + m.points + l] = s.right;
-    words[m.links + r] = s.left;
-    words[m.links + 2 * m.points + c] = 1;
+    write(words, m, r, s.left, l, s.right, c, 1);
 }
 
 // The score is of a kept point and its present neighbours.
@@ -52,15 +50,10 @@ pub fn live(words: &[u32], m: Layout, s: VScore) -> bool
     if m.points <= s.right as usize {
         return false;
     }
-    if !kept(words, m, c) {
-        return false;
-    }
+    let unmarked = kept(words, m, c);
     let p = previous(words, m, c);
-    if p != s.left {
-        return false;
-    }
     let q = next(words, m, c);
-    q == s.right
+    unmarked & (p == s.left) & (q == s.right)
 }
 
 // How many points are kept.
@@ -68,9 +61,17 @@ pub fn count_kept(words: &[u32], m: Layout) -> usize
     requires { ⌜ HasLinks m (now words) ⌝ }
     ensures { λ r. ⌜ r ≡ length (allUnmarked (now (words .entry)) m) ⌝ }
 {
+    count_below(words, m, m.points)
+}
+
+// How many points below hi are kept.
+pub fn count_below(words: &[u32], m: Layout, hi: usize) -> usize
+    requires { ⌜ HasLinks m (now words) × (hi ≤ m .points) ⌝ }
+    ensures { λ r. ⌜ (r ≤ hi) × (r ≡ length (keptFrom (markAt (now (words .entry)) m) 0 hi)) ⌝ }
+{
     let mut count = 0;
     let mut i = 0;
-    while i < m.points {
+    while i < hi {
         if kept(words, m, i) {
             count += 1;
         }
@@ -125,9 +126,17 @@ fn join(words: &mut [u32], m: Layout, i: usize, p: u32, q: u32)
     requires { ⌜ HasLinks m (now words) × (i < m .points) ⌝ }
     ensures { λ r. ⌜ now (words .exit) ≡ linkedAs (now (words .entry)) m i p q ⌝ }
 {
-    words[m.links + i] = p;
-    words[m.links + m.points + i] = q;
-    words[m.links + 2 * m.points + i] = 0;
+    write(words, m, i, p, i, q, i, 0);
+}
+
+// Makes p the previous point of a, q the next of b, and k the mark of c.
+fn write(words: &mut [u32], m: Layout, a: usize, p: u32, b: usize, q: u32, c: usize, k: u32)
+    requires { ⌜ HasLinks m (now words) × (a < m .points) × (b < m .points) × (c < m .points) ⌝ }
+    ensures { λ r. ⌜ now (words .exit) ≡ written (now (words .entry)) m a p b q c k ⌝ }
+{
+    words[m.links + a] = p;
+    words[m.links + m.points + b] = q;
+    words[m.links + 2 * m.points + c] = k;
 }
 
 // In a whole ring from lo on.

@@ -108,7 +108,7 @@ fn run(x: &[f64], y: &[f64], floats: &mut [f64], words: &mut [u32], m: Layout) -
                 };
             }
             Stepped::Removed(i, area, left) => {
-                sum = fold(fold(sum, i as u64), bits(area));
+                sum = fold(fold(sum, i as u64), show::bits(area));
                 len = left;
             }
         }
@@ -122,14 +122,6 @@ fn run(x: &[f64], y: &[f64], floats: &mut [f64], words: &mut [u32], m: Layout) -
 
 fn fold(sum: u64, next: u64) -> u64 {
     (sum % PRIME * BASE + next % PRIME) % PRIME
-}
-
-// Those of a NaN are left open, and it counts as 0.
-fn bits(v: f64) -> u64 {
-    if v == v {
-        return f64::to_bits(v);
-    }
-    0
 }
 
 fn print(name: &[u8], n: u64) {

@@ -190,19 +190,7 @@ fn pack_step(answer: Step, area: &mut f64) -> u64
 fn pack_refused(reason: Reason) -> u64
     ensures { λ n. ⌜ Packed (refusedFor reason) n ⌝ }
 {
-    match reason {
-        Reason::LengthsDiffer => halves(1, 0),
-        Reason::TooManyPoints => halves(2, 0),
-        Reason::OffGrid(point) => halves(3, point.0),
-        Reason::ToleranceNotFinite => halves(4, 0),
-        Reason::RingTable => halves(5, 0),
-        Reason::RingNotClosed => halves(6, 0),
-        Reason::OutputShort => halves(7, 0),
-        Reason::MemoryShort => halves(8, 0),
-        Reason::NoSuchSlot => halves(9, 0),
-        Reason::SlotIsOpen => halves(10, 0),
-        Reason::SlotNotOpen => halves(11, 0),
-    }
+    halves(reason.number(), reason.place())
 }
 
 // The high and the low 32 bits.

@@ -2,8 +2,7 @@
 ghost use mathlib.Core.Path.{_≡_};
 ghost use Prim.Native.Nat.{_-_, _≤_, _<_};
 ghost use lib.ListN.{length};
-ghost use Rattle.rule.specs.Grid.{points, at};
-ghost use Rattle.rule.specs.Segment.{same};
+ghost use Rattle.rule.specs.Grid.{points};
 ghost use Rattle.rule.specs.Repeat.{consecutive, anywhere};
 ghost use Rattle.rule.specs.Answers.{ofThinned};
 ghost use Rattle.rule.specs.Whole.{Lists};
@@ -62,7 +61,7 @@ fn is_new(x: &[f64], y: &[f64], back: usize, i: usize) -> bool
     let mut j = i;
     while from < j {
         j -= 1;
-        if same_point(x, y, i, j) {
+        if lent::same_point(x, y, i, j) {
             return false;
         }
     }
@@ -73,15 +72,4 @@ fn start(back: usize, i: usize) -> usize
     ensures { λ r. ⌜ r ≡ i - back ⌝ }
 {
     if back < i { i - back } else { 0 }
-}
-
-// Equal by coordinates: -0.0 and 0.0 are.
-fn same_point(x: &[f64], y: &[f64], i: usize, j: usize) -> bool
-    requires { ⌜ Fine (now x) (now y) × (i < length (now x)) × (j < length (now x)) ⌝ }
-    ensures { λ r. ⌜ r ≡ same (at (points (now (x .entry)) (now (y .entry))) i) (at (points (now (x .entry)) (now (y .entry))) j) ⌝ }
-{
-    if x[i] == x[j] {
-        return y[i] == y[j];
-    }
-    false
 }

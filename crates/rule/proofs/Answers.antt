@@ -1,9 +1,10 @@
--- An answer says which it is: no two cases of an answer type share a number and values. Assumes nothing.
+-- An answer says which it is: its number and values are document 01's, and no two cases of an answer type share them. Assumes nothing.
 use mathlib.Core.Path.{_≡_, refl, sym, ap, _∙_, ap₂}
-use mathlib.Core.List.{[], _∷_}
+use mathlib.Core.List.{[], _∷_, map}
 use Prim.Native.Nat.{ℕ, _-_}
 use native.Mathlib.Omega.{arith}
 use lib.ListN.{getD}
+use lib.Ieee.{Float}
 use Rattle.rule.specs.declared.PointIndex.{PointIndex}
 use Rattle.rule.specs.declared.Reason.{Reason}
 use Rattle.rule.specs.declared.Reason.the-variants.{LengthsDiffer, TooManyPoints, OffGrid, ToleranceNotFinite, RingTable, RingNotClosed}
@@ -20,7 +21,17 @@ use Rattle.rule.specs.declared.Step.the-variants as step
 use Rattle.rule.specs.declared.Listing.{Listing}
 use Rattle.rule.specs.declared.Listing.the-variants.{Listed}
 use Rattle.rule.specs.declared.Listing.the-variants as listing
-use Rattle.rule.specs.Answers.{number, place, refusedFor, ofThinned, ofOutcome, ofStep, ofListing}
+use Rattle.rule.specs.Answers.{number, place, done, kept, removal, finished, refused, refusedFor, ofThinned, ofOutcome, ofStep, ofListing}
+
+-- the numbers of the table of reasons, and the place that comes with 3
+pub reason-row : (i : PointIndex) → map refusedFor (LengthsDiffer ∷ TooManyPoints ∷ OffGrid i ∷ ToleranceNotFinite ∷ RingTable ∷ RingNotClosed ∷ OutputShort ∷ MemoryShort ∷ NoSuchSlot ∷ SlotIsOpen ∷ SlotNotOpen ∷ [])
+    ≡ refused 1 0 ∷ refused 2 0 ∷ refused 3 (i .0) ∷ refused 4 0 ∷ refused 5 0 ∷ refused 6 0 ∷ refused 7 0 ∷ refused 8 0 ∷ refused 9 0 ∷ refused 10 0 ∷ refused 11 0 ∷ []
+reason-row i = refl
+
+-- what comes with each answer that is no refusal
+pub value-row : (n : ℕ) (i : PointIndex) (v : Float)
+    → ofThinned (Kept n) ∷ ofOutcome Done ∷ ofStep (Removed i v) ∷ ofStep Finished ∷ ofListing (Listed n) ∷ [] ≡ kept n ∷ done ∷ removal (i .0) v ∷ finished ∷ kept n ∷ []
+value-row n i v = refl
 
 -- the reason of a number and a place: the table, read from 1
 abbrev reason : ℕ → ℕ → Reason

@@ -7,6 +7,7 @@ pub mod Least
 pub mod Tolerance
 pub mod RingRemovals
 pub mod Rings
+pub mod Over
 pub mod Answers
 pub mod Reasons
 pub mod Parts

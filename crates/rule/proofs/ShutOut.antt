@@ -1,10 +1,11 @@
 -- What a call's statement shuts out by name, whatever the code: a refusal for no reason, or one that wrote; a false count, another list, a write
--- past it; scratch left as it was, or touched past the table's size. Assumes nothing.
+-- past it; scratch left as it was, or touched past the table's size; on an area changed by other hands, a step or a read that refuses of its own
+-- accord. Assumes nothing.
 use mathlib.Core.Path.{_≡_, refl, sym, ap, _∙_}
 use mathlib.Core.Logic.{_≢_}
 use mathlib.Core.Bool.{false, cond, true≢false}
 use mathlib.Core.List.{List}
-use mathlib.Core.Option.{Option}
+use mathlib.Core.Option.{Option, none}
 use Prim.Native.Nat.{ℕ, zero, suc}
 use native.Mathlib.Omega.{arith}
 use lib.Dec.{eqb}
@@ -14,11 +15,11 @@ use lib.Ieee.{Float}
 use Rattle.rule.specs.Sizes.{scratchFloats, scratchWords}
 use Rattle.rule.specs.Grid.{Point, points}
 use Rattle.rule.specs.Rings.{joined, endsFrom, polygonRule}
-use Rattle.rule.specs.Answers.{Answer, kept, refused}
-use Rattle.rule.specs.Area.{zeroFloat, cleared}
-use Rattle.rule.specs.Reasons.{refusal, firstOffGrid, orZero, repeatReason, thinReason, polygonReason}
+use Rattle.rule.specs.Answers.{Answer, done, kept, refused}
+use Rattle.rule.specs.Area.{Area, zeroFloat, cleared}
+use Rattle.rule.specs.Reasons.{refusal, firstOffGrid, orZero, repeatReason, thinReason, polygonReason, slotReason}
 use Rattle.rule.specs.Whole.{Call, over, Lists, Lent, Thins, LentRings, ThinsRings}
-use Rattle.rule.specs.SlotCalls.{isRefused}
+use Rattle.rule.specs.SlotCalls.{isRefused, Steps, Reads}
 use Rattle.rule.proofs.Parts.{cleared-front, cleared-past}
 
 -- ---- any call that its input settles
@@ -142,3 +143,18 @@ module _ (us vs : List Float) (t : Float) (table : List ℕ) (m m′ : LentRings
         written (length (endsFrom 0 rings)) (endsFrom 0 rings) (m .ringOut) (m′ .ringOut) refl (ap (λ (l : LentRings). l .ringOut) (w .2)),
         scratch-is (length us) (m .line) (m′ .line) (ap (λ (l : LentRings). l .line .floats) (w .2)) (ap (λ (l : LentRings). l .line .words) (w .2)),
       )
+
+-- ---- slots, whatever the area holds
+
+module _ (Rep : Area → List Point → Float → List ℕ → Type 0) (k : ℕ) (a b : Area) (n i : ℕ) where
+  pub steps-refusal : Steps Rep k a (refused n i) b → Refusal (slotReason k a) none n i a b
+  steps-refusal c = refusal-is refl n i call
+    where
+      call : Call (slotReason k a) none done b a (refused n i) b
+      call = record { refuses = c .refuses; does = λ z. absurd (true≢false (c .answers z)) }
+
+  -- of an open slot, only for want of room
+  pub reads-refusal : (out p : List ℕ) → Reads Rep k a out (refused n i) p → slotReason k a ≡ 0 → Refusal 7 none n i out p
+  reads-refusal out p c z =
+      let w = c .short z n i refl in
+      record { given = sym (w .0); not-idle = λ e. omega (arith, e); place = rw (w .0, w .1); writes-nothing = w .2 }

@@ -8,7 +8,7 @@ use lib.ListN.{length}
 use lib.Ieee.{Float, neg}
 use Rattle.rule.specs.Grid.{Point, at, area2, half, within, positive}
 use Rattle.rule.specs.Segment.{same, meets}
-use Rattle.rule.specs.Plain.{Candidate, least, all, without, leave, areaAt}
+use Rattle.rule.specs.Plain.{Candidate, least, without, leave, areaAt}
 
 pub record Minima : Type 0 where
   pub first : ℕ

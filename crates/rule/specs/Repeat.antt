@@ -1,7 +1,7 @@
 -- Repeated points: which indices stay. Assumes nothing.
-use mathlib.Core.Bool.{Bool, true, false, _||_, cond}
+use mathlib.Core.Bool.{Bool, false, _||_, cond}
 use mathlib.Core.List.{List, [], _∷_}
-use Prim.Native.Nat.{ℕ, zero, suc}
+use Prim.Native.Nat.{ℕ, suc}
 use Rattle.rule.specs.Grid.{Point}
 use Rattle.rule.specs.Segment.{same}
 

@@ -11,13 +11,13 @@ use Rattle.rule.specs.Grid.{Point}
 use Rattle.rule.specs.Preserve.{against, againstRing, crosses}
 use Rattle.rule.proofs.Kept.{Up}
 use Rattle.layout.specs.declared.Layout.{Layout}
-use Rattle.layout.specs.Points.{from, PlacedIn}
+use Rattle.layout.specs.Points.{PlacedIn}
 use Rattle.links.specs.Words.{nextAt, markAt}
 use Rattle.links.specs.Ring.{In, Then, Rings}
 use Rattle.links.proofs.Neighbours.{in-none, in-cons, then-first, then-further, then-back, next-unique}
 use Rattle.links.proofs.Ring.{ring-in, in-ring, ring-below, ring-up, next-is, is-next}
-use Rattle.segment.specs.Against.{opposed, AgainstIs}
-use Rattle.segment.specs.Crossing.{Starts, StandsIs, CrossesIs}
+use Rattle.segment.specs.Against.{opposed}
+use Rattle.segment.specs.Crossing.{Starts, AgainstAt, StandsIs, CrossesIs}
 
 -- ---- one ring
 
@@ -100,8 +100,7 @@ module _ (m : Layout) (us vs : List Float) (ws : List ℕ) (l r : ℕ) where
   pub scan-end : (i : ℕ) → Scan m us vs ws l r i → m .points ≤ i → CrossesIs m us vs ws l r false
   scan-end i s h ps ends kss p rs = sym (rings-false ps l r ws m 0 ends kss rs (λ k q st. s .none k (omega arith) st ps p))
 
-  module _ (hl : l < m .points) (hr : r < m .points) (i : ℕ) (hi : i < m .points) (b : Bool)
-      (h : StandsIs m us vs ws i (from us (m .x) l) (from vs (m .y) l) (from us (m .x) r) (from vs (m .y) r) b) where
+  module _ (hl : l < m .points) (hr : r < m .points) (i : ℕ) (hi : i < m .points) (b : Bool) (h : StandsIs m us vs ws i l r b) where
     stands : (s : Starts ws m i) (ps : List Point) → PlacedIn us vs m ps → against ps l r i (nextAt ws m i) ≡ b
     unfolding against
     stands s ps p =
@@ -123,15 +122,14 @@ module _ (m : Layout) (us vs : List Float) (ws : List ℕ) (l r : ℕ) where
 
 -- ---- one point
 
-module _ {m : Layout} {us vs : List Float} {ws : List ℕ} {i : ℕ} {lx ly rx ry : Float} where
+module _ {m : Layout} {us vs : List Float} {ws : List ℕ} {i l r : ℕ} where
   -- no present segment starts at it
-  pub none-starts : (Starts ws m i → ⊥) → StandsIs m us vs ws i lx ly rx ry false
+  pub none-starts : (Starts ws m i → ⊥) → StandsIs m us vs ws i l r false
   none-starts h = record { starts = λ e. absurd (false≢true e); stands = λ s. absurd (h s) }
 
   -- one starts, and ends at j
-  pub one-starts : {j : ℕ} {b : Bool} → markAt ws m i ≡ 0 → j ≡ nextAt ws m i → j < m .points
-      → AgainstIs (from us (m .x) i) (from vs (m .y) i) (from us (m .x) j) (from vs (m .y) j) lx ly rx ry b → StandsIs m us vs ws i lx ly rx ry b
+  pub one-starts : {j : ℕ} {b : Bool} → markAt ws m i ≡ 0 → j ≡ nextAt ws m i → j < m .points → AgainstAt m us vs i j l r b → StandsIs m us vs ws i l r b
   one-starts {j} {b} k e h f = record {
     starts = λ z. record { kept = k; ahead = omega arith };
-    stands = λ s. subst (λ (o : ℕ). AgainstIs (from us (m .x) i) (from vs (m .y) i) (from us (m .x) o) (from vs (m .y) o) lx ly rx ry b) e f;
+    stands = λ s. subst (λ (o : ℕ). AgainstAt m us vs i o l r b) e f;
   }

@@ -6,12 +6,17 @@ use lib.IntN.{ℤ}
 use lib.Signed.{leZ}
 use lib.Ieee.{Float}
 use Rattle.rule.specs.Grid.{Point, pointOf}
+use Rattle.rule.specs.Segment.{same}
 use Rattle.rule.specs.Preserve.{against}
 use Rattle.grid.specs.On.{On}
 
 -- one of a and b is at most one of c and d
 abbrev pub reaches : ℤ → ℤ → ℤ → ℤ → Bool
 reaches a b c d = leZ a c || leZ a d || leZ b c || leZ b d
+
+-- p equals an end of the segment from l to r
+abbrev pub isEnd : Point → Point → Point → Bool
+isEnd p l r = same p l || same p r
 
 -- the rule's `against`, of the present segment from a to b and the new one from l to r
 abbrev pub opposed : Point → Point → Point → Point → Bool

@@ -17,11 +17,15 @@ pub record Starts (ws : List ℕ) (m : Layout) (i : ℕ) : Type 0 where
   pub kept : markAt ws m i ≡ 0
   pub ahead : nextAt ws m i < m .points
 
+-- of the segment from point i to point j and the new one from l to r
+abbrev pub AgainstAt : Layout → List Float → List Float → (i j l r : ℕ) → Bool → Type 0
+AgainstAt m us vs i j l r b =
+    AgainstIs (from us (m .x) i) (from vs (m .y) i) (from us (m .x) j) (from vs (m .y) j) (from us (m .x) l) (from vs (m .y) l) (from us (m .x) r) (from vs (m .y) r) b
+
 -- does a present segment start at point i that is against the one from l to r
-pub record StandsIs (m : Layout) (us vs : List Float) (ws : List ℕ) (i : ℕ) (lx ly rx ry : Float) (b : Bool) : Type 0 where
+pub record StandsIs (m : Layout) (us vs : List Float) (ws : List ℕ) (i l r : ℕ) (b : Bool) : Type 0 where
   pub starts : b ≡ true → Starts ws m i
-  pub stands : Starts ws m i
-      → AgainstIs (from us (m .x) i) (from vs (m .y) i) (from us (m .x) (nextAt ws m i)) (from vs (m .y) (nextAt ws m i)) lx ly rx ry b
+  pub stands : Starts ws m i → AgainstAt m us vs i (nextAt ws m i) l r b
 
 -- does the new segment from l to r cross a present one of any ring
 abbrev pub CrossesIs : Layout → List Float → List Float → List ℕ → ℕ → ℕ → Bool → Type 0

@@ -1,5 +1,6 @@
--- Every removal of the index rule: after k steps the memory has what the rule leaves after k removals. Assumes nothing.
+-- Every removal: after k steps the memory has what the index rule leaves after k removals, and the point rule makes all of these or none. Assumes nothing.
 use mathlib.Core.Path.{_≡_, refl, sym, ap, _∙_, subst}
+use mathlib.Core.Bool.{true, false, false≢true}
 use mathlib.Core.List.{List}
 use mathlib.Core.Option.{Option, none}
 use Prim.Native.Nat.{ℕ, zero, suc, _+_, _*_, _-_, _≤_}
@@ -7,11 +8,13 @@ use native.Mathlib.Omega.{arith}
 use native.Mathlib.Numerals.{add-one}
 use lib.ListN.{length, getD}
 use lib.Ieee.{Float, nan}
-use Rattle.rule.specs.Grid.{Point}
+use borrow.Author.Tests.{not-true, not-false}
+use Rattle.rule.specs.Grid.{Point, positive}
 use Rattle.rule.specs.Plain.{Candidate, indices, all, next, areaAt, indexRule}
 use Rattle.rule.specs.Slots.{nth, leftAfter}
 use Rattle.rule.specs.SlotCalls.{lessBy}
 use Rattle.rule.proofs.Removals.{next-nth, finished-again, left-zero, left-suc, left-last}
+use Rattle.rule.proofs.Tolerance.{point-all, point-index}
 use Rattle.layout.specs.declared.Layout.{Layout}
 use Rattle.layout.specs.Layout.{Room}
 use Rattle.vscore.specs.Scale.{halves}
@@ -22,6 +25,9 @@ use Rattle.thin.specs.State.{Seeded}
 use Rattle.thin.specs.Plain.{LineRep, StepDone}
 use Rattle.thin.specs.declared.Stepped.{Stepped}
 use Rattle.thin.specs.declared.Stepped.the-variants.{Removed, Finished}
+use Rattle.simplify_vw.specs.declared.Rule.{Rule}
+use Rattle.simplify_vw.specs.declared.Rule.the-variants.{Index, Point as Points}
+use Rattle.simplify_vw.specs.Rule.{ofRule, keepsAll}
 use Rattle.simplify_vw.specs.Calls.{Given, Ran}
 
 -- ---- what is left once a step finds nothing
@@ -55,6 +61,21 @@ pub stepped-as : {us vs : List Float} {fs : List Float} {ws : List ℕ} {m : Lay
 stepped-as {us} {vs} {fs} {ws} {m} {len} {t} {fs′} {ws′} e d = subst (StepDone us vs fs ws m len t fs′ ws′) e d
 
 module _ {us vs : List Float} {m : Layout} {t : Float} where
+  every : {ps : List Point} → Given us vs m t ps → indices 0 (m .points - 0) ≡ all ps
+  every {ps} g = let e : m .points - 0 ≡ length ps = omega (arith, g .size) in rw e (unfold all in refl)
+
+  -- a rule that keeps all leaves the links as they were made
+  pub run-none : {fs : List Float} {ws ws′ : List ℕ} (rule : Rule) → keepsAll rule t ≡ true → Joined ws m 0 (m .points) ws′ → Ran (ofRule rule) us vs fs ws m t fs ws′
+  run-none {ws′ = ws′} rule e joined = record {
+    floats = λ i h. refl;
+    words = joined .only .after;
+    kept = λ ps g. subst (Line ws′ m) (every g ∙ sym (keeps-all rule ps e)) (joined .ring);
+  }
+    where
+      keeps-all : (rule : Rule) (ps : List Point) → keepsAll rule t ≡ true → ofRule rule ps t ≡ all ps
+      keeps-all Index ps e = absurd (false≢true e)
+      keeps-all Points ps e = point-all ps t (not-true (positive t) e)
+
   module _ {fs₀ : List Float} {ws₀ ws₁ : List ℕ} {fs : List Float} {ws : List ℕ} {len : ℕ}
       (joined : Joined ws₀ m 0 (m .points) ws₁) (seeded : Seeded us vs fs₀ ws₁ m 0 (m .points) fs ws len) where
     pub run-start : Running us vs fs ws m t fs ws len 0
@@ -64,20 +85,22 @@ module _ {us vs : List Float} {m : Layout} {t : Float} where
       few = seeded .few;
       floats = λ i h. refl;
       words = λ i h. refl;
-      rep = λ ps g. subst (λ (ks : List ℕ). LineRep ps ks fs ws m len) (every ps g)
+      rep = λ ps g. subst (λ (ks : List ℕ). LineRep ps ks fs ws m len) (every g ∙ sym (left-zero ps t))
           (seeded .rep halves (areaAt ps) ps halves-faithful (g .placed) (λ a b c. refl) (joined .ring) (g .fits));
     }
-      where
-        every : (ps : List Point) → Given us vs m t ps → indices 0 (m .points - 0) ≡ leftAfter ps t 0
-        every ps g = let e : m .points - 0 ≡ length ps = omega (arith, g .size) in rw (e, left-zero) (unfold all in refl)
 
-    -- the links and the first scores change nothing past the layout's runs
-    pub run-whole : Room m fs₀ ws₁ → {fs′ : List Float} {ws′ : List ℕ} → Ran us vs fs ws m t fs′ ws′ → Ran us vs fs₀ ws₀ m t fs′ ws′
-    run-whole room ran = record {
+    -- any other keeps what the index rule does; the links and the first scores change nothing past the layout's runs
+    pub run-whole : (rule : Rule) → keepsAll rule t ≡ false → Room m fs₀ ws₁ → {fs′ : List Float} {ws′ : List ℕ} → Ran indexRule us vs fs ws m t fs′ ws′
+        → Ran (ofRule rule) us vs fs₀ ws₀ m t fs′ ws′
+    run-whole rule e room {ws′ = ws′} ran = record {
       floats = λ i h. ran .floats i h ∙ seeded .framed .floats i h;
       words = λ i h. ran .words i h ∙ seeded .framed .after i (omega (arith, room .scores)) ∙ joined .only .after i h;
-      kept = ran .kept;
+      kept = λ ps g. subst (Line ws′ m) (sym (keeps-some rule ps e)) (ran .kept ps g);
     }
+      where
+        keeps-some : (rule : Rule) (ps : List Point) → keepsAll rule t ≡ false → ofRule rule ps t ≡ indexRule ps t
+        keeps-some Index ps e = refl
+        keeps-some Points ps e = point-index ps t (not-false (positive t) e)
 
   module _ {fs : List Float} {ws : List ℕ} {fs′ : List Float} {ws′ : List ℕ} {len k : ℕ} (s : Running us vs fs ws m t fs′ ws′ len k) where
     pub run-turn : {fs″ : List Float} {ws″ : List ℕ} {i n : ℕ} {a : Float} → length fs″ ≡ length fs′ → length ws″ ≡ length ws′
@@ -95,7 +118,7 @@ module _ {us vs : List Float} {m : Layout} {t : Float} where
     }
 
     -- nothing is left to remove,
-    pub run-finished : {fs″ : List Float} {ws″ : List ℕ} {n : ℕ} → StepDone us vs fs′ ws′ m len t fs″ ws″ (Finished n) → Ran us vs fs ws m t fs″ ws″
+    pub run-finished : {fs″ : List Float} {ws″ : List ℕ} {n : ℕ} → StepDone us vs fs′ ws′ m len t fs″ ws″ (Finished n) → Ran indexRule us vs fs ws m t fs″ ws″
     run-finished {ws″ = ws″} d = record {
       floats = λ i h. d .floats i h ∙ s .floats i h;
       words = λ i h. d .after i h ∙ s .words i h;
@@ -105,7 +128,7 @@ module _ {us vs : List Float} {m : Layout} {t : Float} where
     }
 
     -- or there were as many steps as points
-    pub run-end : m .points ≤ k → Ran us vs fs ws m t fs′ ws′
+    pub run-end : m .points ≤ k → Ran indexRule us vs fs ws m t fs′ ws′
     run-end h = record {
       floats = s .floats;
       words = s .words;

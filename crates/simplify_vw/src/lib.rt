@@ -1,14 +1,19 @@
 // Plain thinning of a line, whole calls: the index rule (geo's simplify_vw_idx) and the point rule (its simplify_vw).
 // Any two results that a call's statement allows for the same input are equal: `thins-settled` of rule/proofs/Settled.
+ghost use mathlib.Core.Path.{_≡_};
 ghost use Prim.Native.Nat.{_≤_};
+ghost use lib.ListN.{length};
 ghost use Rattle.rule.specs.Sizes.{mostPoints};
+ghost use Rattle.rule.specs.Grid.{points};
 ghost use Rattle.rule.specs.Plain.{indexRule, pointRule};
 ghost use Rattle.rule.specs.Answers.{ofThinned};
 ghost use Rattle.rule.specs.Whole.{lent, Thins};
 ghost use Rattle.layout.specs.Layout.{Room};
 ghost use Rattle.layout.specs.Points.{HasPoints};
 ghost use Rattle.lent.specs.Fine.{Ready};
-ghost use Rattle.simplify_vw.specs.Calls.{Ran, Keeps};
+ghost use Rattle.lent.specs.Keeps.{Keeps};
+ghost use Rattle.simplify_vw.specs.Rule.{ofRule, keepsAll};
+ghost use Rattle.simplify_vw.specs.Calls.{Ran};
 use layout::Layout;
 use rule::Outcome;
 use rule::Thinned;
@@ -26,10 +31,7 @@ pub fn simplify_vw_idx(
     ensures { λ r. ⌜ Thins indexRule (now (x .entry)) (now (y .entry)) tolerance (lent (now (out .entry)) (now (floats .entry)) (now (words .entry)))
         (ofThinned r) (lent (now (out .exit)) (now (floats .exit)) (now (words .exit))) ⌝ }
 {
-    match lent::thin_reason(x, y, tolerance, out.len(), floats, words) {
-        Outcome::Refused(reason) => Thinned::Refused(reason),
-        Outcome::Done => Thinned::Kept(visvalingam_indices(x, y, tolerance, out, floats, words)),
-    }
+    simplify(Rule::Index, x, y, tolerance, out, floats, words)
 }
 
 // The point rule: a tolerance of zero or less keeps every point.
@@ -44,36 +46,44 @@ pub fn simplify_vw(
     ensures { λ r. ⌜ Thins pointRule (now (x .entry)) (now (y .entry)) tolerance (lent (now (out .entry)) (now (floats .entry)) (now (words .entry)))
         (ofThinned r) (lent (now (out .exit)) (now (floats .exit)) (now (words .exit))) ⌝ }
 {
+    simplify(Rule::Point, x, y, tolerance, out, floats, words)
+}
+
+enum Rule {
+    Index,
+    Point,
+}
+
+// Tests what is lent, and thins by the rule.
+fn simplify(
+    rule: Rule,
+    x: &[f64],
+    y: &[f64],
+    tolerance: f64,
+    out: &mut [u32],
+    floats: &mut [f64],
+    words: &mut [u32],
+) -> Thinned
+    ensures { λ r. ⌜ Thins (ofRule rule) (now (x .entry)) (now (y .entry)) tolerance (lent (now (out .entry)) (now (floats .entry)) (now (words .entry)))
+        (ofThinned r) (lent (now (out .exit)) (now (floats .exit)) (now (words .exit))) ⌝ }
+{
     match lent::thin_reason(x, y, tolerance, out.len(), floats, words) {
         Outcome::Refused(reason) => Thinned::Refused(reason),
-        Outcome::Done => Thinned::Kept(visvalingam(x, y, tolerance, out, floats, words)),
+        Outcome::Done => Thinned::Kept(visvalingam_indices(
+            rule,
+            x,
+            y,
+            tolerance,
+            out,
+            floats,
+            words,
+        )),
     }
 }
 
-// Lists what the point rule keeps, and gives how many.
-fn visvalingam(
-    x: &[f64],
-    y: &[f64],
-    tolerance: f64,
-    out: &mut [u32],
-    floats: &mut [f64],
-    words: &mut [u32],
-) -> u32
-    requires { ⌜ Ready (now x) (now y) tolerance (lent (now out) (now floats) (now words)) ⌝ }
-    ensures { λ r. ⌜ Keeps pointRule (now (x .entry)) (now (y .entry)) tolerance (lent (now (out .entry)) (now (floats .entry)) (now (words .entry)))
-        r (lent (now (out .exit)) (now (floats .exit)) (now (words .exit))) ⌝ }
-{
-    if lent::tolerance_positive(tolerance) {
-        return visvalingam_indices(x, y, tolerance, out, floats, words);
-    }
-    let n = x.len();
-    lent::list_all(out, n);
-    lent::zero_scratch(floats, words, n);
-    n as u32
-}
-
-// Lists what the index rule keeps, and gives how many.
+// Lists what the rule keeps, and gives how many.
 fn visvalingam_indices(
+    rule: Rule,
     x: &[f64],
     y: &[f64],
     tolerance: f64,
@@ -82,18 +92,17 @@ fn visvalingam_indices(
     words: &mut [u32],
 ) -> u32
     requires { ⌜ Ready (now x) (now y) tolerance (lent (now out) (now floats) (now words)) ⌝ }
-    ensures { λ r. ⌜ Keeps indexRule (now (x .entry)) (now (y .entry)) tolerance (lent (now (out .entry)) (now (floats .entry)) (now (words .entry)))
-        r (lent (now (out .exit)) (now (floats .exit)) (now (words .exit))) ⌝ }
+    ensures { λ r. ⌜ Keeps (length (now (x .entry))) (ofRule rule (points (now (x .entry)) (now (y .entry))) tolerance)
+        (lent (now (out .entry)) (now (floats .entry)) (now (words .entry))) r (lent (now (out .exit)) (now (floats .exit)) (now (words .exit))) ⌝ }
 {
     let m = Layout::scratch(x.len());
-    remove_all(x, y, floats, words, m, tolerance);
-    let count = links::list_kept(words, m, out);
-    lent::zero_scratch(floats, words, x.len());
-    count as u32
+    remove_all(rule, x, y, floats, words, m, tolerance);
+    lent::finish(x.len(), out, floats, words)
 }
 
 // Links the points and makes every removal.
 fn remove_all(
+    rule: Rule,
     x: &[f64],
     y: &[f64],
     floats: &mut [f64],
@@ -102,9 +111,12 @@ fn remove_all(
     tolerance: f64,
 )
     requires { ⌜ HasPoints m (now x) (now y) × Room m (now floats) (now words) × (m .points ≤ mostPoints) ⌝ }
-    ensures { λ r. ⌜ Ran (now (x .entry)) (now (y .entry)) (now (floats .entry)) (now (words .entry)) m tolerance (now (floats .exit)) (now (words .exit)) ⌝ }
+    ensures { λ r. ⌜ Ran (ofRule rule) (now (x .entry)) (now (y .entry)) (now (floats .entry)) (now (words .entry)) m tolerance (now (floats .exit)) (now (words .exit)) ⌝ }
 {
     links::link(words, m, 0, m.points);
+    if keeps_all(rule, tolerance) {
+        return;
+    }
     let mut len = thin::seed(x, y, floats, words, m, 0, m.points);
     // There are fewer removals than points.
     let mut made = 0;
@@ -118,5 +130,15 @@ fn remove_all(
             }
         }
         made += 1;
+    }
+}
+
+// The rule removes nothing at this tolerance, whatever the points.
+fn keeps_all(rule: Rule, tolerance: f64) -> bool
+    ensures { λ r. ⌜ r ≡ keepsAll rule tolerance ⌝ }
+{
+    match rule {
+        Rule::Index => false,
+        Rule::Point => !lent::tolerance_positive(tolerance),
     }
 }

@@ -1,6 +1,6 @@
 -- The ring table: its tests, and the table of what is kept. Assumes nothing.
 use mathlib.Core.Path.{_≡_, refl, sym, ap, _∙_, subst}
-use mathlib.Core.Bool.{Bool, true, false, not, cond, _&&_, _||_, or-true}
+use mathlib.Core.Bool.{Bool, true, false, not, _&&_, _||_, or-true}
 use mathlib.Core.List.{List, [], _∷_, _++_, map, map-append}
 use Prim.Native.Nat.{ℕ, zero, suc, _+_, _-_, _≤_, _<_}
 use native.Mathlib.Nat.{sub-zero}
@@ -19,7 +19,7 @@ use Rattle.rule.specs.Rings.{rises, lastOr, badTable, ringsFrom, isClosed, allC
 use Rattle.rule.specs.Whole.{over}
 use Rattle.rule.proofs.Rings.{table-good}
 use Rattle.layout.specs.declared.Layout.{Layout}
-use Rattle.lent.proofs.Over.{over-more}
+use Rattle.rule.proofs.Over.{over-more}
 use Rattle.links.specs.Words.{markAt}
 use Rattle.links.specs.Ring.{keptFrom, unmarked, Rings}
 use Rattle.links.proofs.Rings.{unmarked-append}
@@ -139,15 +139,6 @@ module _ {us vs : List Float} {table : List ℕ} where
         go (x ∷ l) g e = absurd (omega arith)
 
 -- ---- the table of what is kept
-
-pub kept-short : (mark : ℕ → ℕ) (i n : ℕ) → length (keptFrom mark i n) ≤ n
-unfolding keptFrom
-kept-short mark i zero = omega arith
-kept-short mark i (suc n) = go (eqb (mark i) 0) (kept-short mark (suc i) n)
-  where
-    go : (b : Bool) → length (keptFrom mark (suc i) n) ≤ n → length (cond b (i ∷ keptFrom mark (suc i) n) (keptFrom mark (suc i) n)) ≤ suc n
-    go true h = omega arith
-    go false h = omega arith
 
 -- of rings from lo on, where so many are kept before
 ends-from : (ws : List ℕ) (m : Layout) (lo end : ℕ) (ends : List ℕ) (kss : List (List ℕ)) → Rings ws m lo end ends kss

@@ -22,7 +22,7 @@ use Rattle.links.specs.Calls.{Joined}
 use Rattle.links.proofs.Rings.{rings-same, rings-append}
 use Rattle.thin.specs.State.{most}
 use Rattle.simplify_vw_preserve.specs.State.{Setting, leftIn, Ended, Outside}
-use Rattle.simplify_vw_preserve.specs.Calls.{RingDone, Cuts, LinkedAll, AllDone, Wrapped}
+use Rattle.simplify_vw_preserve.specs.Calls.{RingDone, Cuts, LinkedAll, Wrapped}
 use Rattle.simplify_vw_preserve.proofs.Running.{outside-self, outside-then}
 
 -- ---- the table
@@ -141,6 +141,17 @@ module _ {ws : List ℕ} {m : Layout} {ends : List ℕ} where
 
 -- ---- all rings thinned
 
+linked-frame : {fs : List Float} {ws : List ℕ} {m : Layout} {ends : List ℕ} {ws₁ : List ℕ} → Room m fs ws → LinkedAll ws m ends ws₁ → Outside fs ws m fs ws₁
+linked-frame room l = record { floats = λ i h. refl; before = λ i h. l .before i (omega (arith, room .scores)); after = l .after }
+
+-- a tolerance of zero or less keeps all
+pub wrapped-whole : {us vs fs : List Float} {ws : List ℕ} {m : Layout} {ends : List ℕ} {q : Minima} {t : Float} {ws₁ : List ℕ}
+    → Room m fs ws → LinkedAll ws m ends ws₁ → positive t ≡ false → Wrapped us vs fs ws m ends q t fs ws₁
+wrapped-whole {m = m} {ends = ends} {q = q} {t = t} {ws₁ = ws₁} room l e = record {
+  frame = linked-frame room l;
+  rings = λ ps p f fits. subst (Rings ws₁ m 0 (m .points) ends) (sym (preserve-all ps t q (ringsFrom 0 ends) e)) (l .rings);
+}
+
 -- what the rule keeps of each ring, where `done` are kept of those before
 unfoldable pub keeps : List Point → Float → Minima → List (List ℕ) → List (List ℕ) → List (List ℕ)
 unfolding ringsRemovals leaveEach
@@ -237,15 +248,16 @@ module _ {us vs fs : List Float} {ws : List ℕ} {m : Layout} {ends : List ℕ} 
         under = λ ps p f a fits r. more ps p f a fits (s .under ps p f a fits r);
       }
 
-    pub thinning-end : length ends ≤ k → AllDone us vs fs ws m ends q t fs′ ws′
+    -- the rings were whole at first
+    pub thinning-end : length ends ≤ k → positive t ≡ true → {ws₀ : List ℕ} → Room m fs ws₀ → LinkedAll ws₀ m ends ws → Wrapped us vs fs ws₀ m ends q t fs′ ws′
     unfolding ringsFrom
-    thinning-end h = record {
-      frame = s .frame;
-      does = λ ps p f a fits r. end ps a (s .under ps p f a fits r);
+    thinning-end h a room l = record {
+      frame = outside-then (linked-frame room l) (s .frame);
+      rings = λ ps p f fits. end ps (s .under ps p f a fits (l .rings));
     }
       where
-        end : (ps : List Point) → positive t ≡ true → Halfway ps t q ends ws′ m (s .past) lo k → Rings ws′ m 0 (m .points) ends (preserve ps t q (ringsFrom 0 ends))
-        end ps a w = go (drop k ends) (omega (arith, length-drop k ends)) (w .same) (cut-end (s .table) h .0) (cut-end (s .table) h .1)
+        end : (ps : List Point) → Halfway ps t q ends ws′ m (s .past) lo k → Rings ws′ m 0 (m .points) ends (preserve ps t q (ringsFrom 0 ends))
+        end ps w = go (drop k ends) (omega (arith, length-drop k ends)) (w .same) (cut-end (s .table) h .0) (cut-end (s .table) h .1)
           where
             go : (l : List ℕ) → length l ≤ 0 → w .done ++ keeps ps t q (w .done) (ringsFrom lo l) ≡ keeps ps t q [] (ringsFrom 0 ends) → s .past ≡ ends → lo ≡ m .points
                 → Rings ws′ m 0 (m .points) ends (preserve ps t q (ringsFrom 0 ends))
@@ -255,19 +267,3 @@ module _ {us vs fs : List Float} {ws : List ℕ} {m : Layout} {ends : List ℕ} 
                 (sym (append-nil (w .done)) ∙ ap (λ (l : List (List ℕ)). w .done ++ l) (sym (keeps-none ps t q (w .done))) ∙ e ∙ keeps-all ps t q a (ringsFrom 0 ends))
                 (subst (λ (es : List ℕ). Rings ws′ m 0 lo es (w .done)) z (w .before)))
             go (x ∷ l) g e z n = absurd (omega arith)
-
--- ---- all rings linked, and then thinned if the tolerance is above zero
-
-linked-frame : {fs : List Float} {ws : List ℕ} {m : Layout} {ends : List ℕ} {ws₁ : List ℕ} → Room m fs ws → LinkedAll ws m ends ws₁ → Outside fs ws m fs ws₁
-linked-frame room l = record { floats = λ i h. refl; before = λ i h. l .before i (omega (arith, room .scores)); after = l .after }
-
-module _ {us vs fs : List Float} {ws : List ℕ} {m : Layout} {ends : List ℕ} {q : Minima} {t : Float} {ws₁ : List ℕ} where
-  pub wrapped-whole : Room m fs ws → LinkedAll ws m ends ws₁ → positive t ≡ false → Wrapped us vs fs ws m ends q t fs ws₁
-  wrapped-whole room l e = record {
-    frame = linked-frame room l;
-    rings = λ ps p f fits. subst (Rings ws₁ m 0 (m .points) ends) (sym (preserve-all ps t q (ringsFrom 0 ends) e)) (l .rings);
-  }
-
-  pub wrapped-thinned : {fs′ : List Float} {ws′ : List ℕ} → Room m fs ws → LinkedAll ws m ends ws₁ → positive t ≡ true → AllDone us vs fs ws₁ m ends q t fs′ ws′
-      → Wrapped us vs fs ws m ends q t fs′ ws′
-  wrapped-thinned room l e d = record { frame = outside-then (linked-frame room l) (d .frame); rings = λ ps p f fits. d .does ps p f e fits (l .rings) }

@@ -5,7 +5,7 @@ use mathlib.Core.List.{List, []}
 use Prim.Native.Nat.{ℕ, _+_, _*_, _-_, _≤_, _<_}
 use lib.ListN.{length, getD}
 use lib.Ieee.{Float}
-use Rattle.rule.specs.Grid.{Point, isFinite, positive}
+use Rattle.rule.specs.Grid.{Point, isFinite}
 use Rattle.rule.specs.Plain.{Candidate, indices, without}
 use Rattle.rule.specs.Preserve.{Minima, stop, remove, demoted, preserve}
 use Rattle.rule.specs.Rings.{rises, lastOr, ringsFrom}
@@ -65,12 +65,6 @@ pub record LinkedAll (ws : List ℕ) (m : Layout) (ends : List ℕ) (ws′ : Lis
   pub rings : Rings ws′ m 0 (m .points) ends (ringsFrom 0 ends)
   pub before : (i : ℕ) → i < m .links → getD ws′ i 0 ≡ getD ws i 0
   pub after : (i : ℕ) → m .links + 3 * m .points ≤ i → getD ws′ i 0 ≡ getD ws i 0
-
--- rings of which every point is kept, thinned one after the other
-pub record AllDone (us vs fs : List Float) (ws : List ℕ) (m : Layout) (ends : List ℕ) (q : Minima) (t : Float) (fs′ : List Float) (ws′ : List ℕ) : Type 0 where
-  pub frame : Outside fs ws m fs′ ws′
-  pub does : (ps : List Point) → PlacedIn us vs m ps → isFinite t ≡ true → positive t ≡ true → most m ≤ m .capacity → Rings ws m 0 (m .points) ends (ringsFrom 0 ends)
-      → Rings ws′ m 0 (m .points) ends (preserve ps t q (ringsFrom 0 ends))
 
 -- the links are those of what the rule keeps of each ring
 pub record Wrapped (us vs fs : List Float) (ws : List ℕ) (m : Layout) (ends : List ℕ) (q : Minima) (t : Float) (fs′ : List Float) (ws′ : List ℕ) : Type 0 where

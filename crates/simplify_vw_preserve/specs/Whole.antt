@@ -5,9 +5,10 @@ use Prim.Native.Nat.{ℕ, _≤_}
 use lib.ListN.{length}
 use lib.Ieee.{Float}
 use Rattle.rule.specs.Grid.{points}
-use Rattle.rule.specs.Rings.{joined, lineRule, polygonRule}
-use Rattle.rule.specs.Whole.{Lent, thinned, LentRings, thinnedRings}
+use Rattle.rule.specs.Rings.{joined, endsFrom, polygonRule}
+use Rattle.rule.specs.Whole.{over, LentRings}
 use Rattle.lent.specs.Fine.{Ready}
+use Rattle.lent.specs.Keeps.{Keeps}
 use Rattle.simplify_vw_preserve.specs.Calls.{Cuts}
 
 -- a polygon to be thinned that no reason leaves out
@@ -16,11 +17,7 @@ pub record ReadyRings (us vs : List Float) (t : Float) (table : List ℕ) (m : L
   pub cuts : Cuts (length us) table
   pub room : length table ≤ length (m .ringOut)
 
--- what the rule keeps is listed, so many, and the scratch is zeros
-pub record KeepsLine (us vs : List Float) (t : Float) (m : Lent) (r : ℕ) (m′ : Lent) : Type 0 where
-  pub count : r ≡ length (lineRule (points us vs) t)
-  pub left : m′ ≡ thinned (length us) (lineRule (points us vs) t) m
-
+-- what the rule keeps of each ring is listed, so many, with its ring table
 pub record KeepsRings (us vs : List Float) (t : Float) (table : List ℕ) (m : LentRings) (r : ℕ) (m′ : LentRings) : Type 0 where
-  pub count : r ≡ length (joined (polygonRule (points us vs) t table))
-  pub left : m′ ≡ thinnedRings (length us) (polygonRule (points us vs) t table) m
+  pub line : Keeps (length us) (joined (polygonRule (points us vs) t table)) (m .line) r (m′ .line)
+  pub ends : m′ .ringOut ≡ over (endsFrom 0 (polygonRule (points us vs) t table)) (m .ringOut)

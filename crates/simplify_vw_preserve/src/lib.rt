@@ -8,15 +8,17 @@ ghost use mathlib.Core.List.{map};
 ghost use Prim.Native.Nat.{_≤_};
 ghost use lib.ListN.{length};
 ghost use Rattle.rule.specs.Sizes.{mostPoints};
+ghost use Rattle.rule.specs.Grid.{points};
 ghost use Rattle.rule.specs.Rings.{lineRule};
 ghost use Rattle.rule.specs.Answers.{ofThinned};
 ghost use Rattle.rule.specs.Whole.{over, lent, lentRings, Thins, ThinsRings};
 ghost use Rattle.layout.specs.Layout.{Room};
 ghost use Rattle.layout.specs.Points.{HasPoints};
 ghost use Rattle.lent.specs.Fine.{Ready};
+ghost use Rattle.lent.specs.Keeps.{Keeps};
 ghost use Rattle.links.specs.Words.{HasLinks};
-ghost use Rattle.simplify_vw_preserve.specs.Calls.{minima, Cuts, LinkedAll, AllDone, Wrapped, countBelow};
-ghost use Rattle.simplify_vw_preserve.specs.Whole.{ReadyRings, KeepsLine, KeepsRings};
+ghost use Rattle.simplify_vw_preserve.specs.Calls.{minima, Cuts, LinkedAll, Wrapped, countBelow};
+ghost use Rattle.simplify_vw_preserve.specs.Whole.{ReadyRings, KeepsRings};
 use layout::Layout;
 use rule::Outcome;
 use rule::Thinned;
@@ -46,15 +48,24 @@ pub fn simplify_vw_preserve_polygon(
     tolerance: f64,
     rings: &[u32],
     out: &mut [u32],
-    ends: &mut [u32],
+    ring_out: &mut [u32],
     floats: &mut [f64],
     words: &mut [u32],
 ) -> Thinned
     ensures { λ r. ⌜ ThinsRings (now (x .entry)) (now (y .entry)) tolerance (now (rings .entry))
-        (lentRings (now (out .entry)) (now (ends .entry)) (now (floats .entry)) (now (words .entry)))
-        (ofThinned r) (lentRings (now (out .exit)) (now (ends .exit)) (now (floats .exit)) (now (words .exit))) ⌝ }
+        (lentRings (now (out .entry)) (now («ring_out» .entry)) (now (floats .entry)) (now (words .entry)))
+        (ofThinned r) (lentRings (now (out .exit)) (now («ring_out» .exit)) (now (floats .exit)) (now (words .exit))) ⌝ }
 {
-    match reasons::polygon_reason(x, y, tolerance, rings, out.len(), ends.len(), floats, words) {
+    match reasons::polygon_reason(
+        x,
+        y,
+        tolerance,
+        rings,
+        out.len(),
+        ring_out.len(),
+        floats,
+        words,
+    ) {
         Outcome::Refused(reason) => Thinned::Refused(reason),
         Outcome::Done => Thinned::Kept(preserve_rings(
             x,
@@ -62,7 +73,7 @@ pub fn simplify_vw_preserve_polygon(
             tolerance,
             rings,
             out,
-            ends,
+            ring_out,
             floats,
             words,
         )),
@@ -79,15 +90,13 @@ fn preserve_line(
     words: &mut [u32],
 ) -> u32
     requires { ⌜ Ready (now x) (now y) tolerance (lent (now out) (now floats) (now words)) ⌝ }
-    ensures { λ r. ⌜ KeepsLine (now (x .entry)) (now (y .entry)) tolerance (lent (now (out .entry)) (now (floats .entry)) (now (words .entry)))
-        r (lent (now (out .exit)) (now (floats .exit)) (now (words .exit))) ⌝ }
+    ensures { λ r. ⌜ Keeps (length (now (x .entry))) (lineRule (points (now (x .entry)) (now (y .entry))) tolerance)
+        (lent (now (out .entry)) (now (floats .entry)) (now (words .entry))) r (lent (now (out .exit)) (now (floats .exit)) (now (words .exit))) ⌝ }
 {
     let m = Layout::scratch(x.len());
     let rings = [x.len() as u32];
     vwp_wrapper(x, y, &rings, floats, words, m, 2, 4, tolerance);
-    let count = links::list_kept(words, m, out);
-    lent::zero_scratch(floats, words, x.len());
-    count as u32
+    lent::finish(x.len(), out, floats, words)
 }
 
 // Lists what the rule keeps of the rings, with their table, and gives how many.
@@ -97,24 +106,22 @@ fn preserve_rings(
     tolerance: f64,
     rings: &[u32],
     out: &mut [u32],
-    ends: &mut [u32],
+    ring_out: &mut [u32],
     floats: &mut [f64],
     words: &mut [u32],
 ) -> u32
-    requires { ⌜ ReadyRings (now x) (now y) tolerance (now rings) (lentRings (now out) (now ends) (now floats) (now words)) ⌝ }
+    requires { ⌜ ReadyRings (now x) (now y) tolerance (now rings) (lentRings (now out) (now «ring_out») (now floats) (now words)) ⌝ }
     ensures { λ r. ⌜ KeepsRings (now (x .entry)) (now (y .entry)) tolerance (now (rings .entry))
-        (lentRings (now (out .entry)) (now (ends .entry)) (now (floats .entry)) (now (words .entry)))
-        r (lentRings (now (out .exit)) (now (ends .exit)) (now (floats .exit)) (now (words .exit))) ⌝ }
+        (lentRings (now (out .entry)) (now («ring_out» .entry)) (now (floats .entry)) (now (words .entry)))
+        r (lentRings (now (out .exit)) (now («ring_out» .exit)) (now (floats .exit)) (now (words .exit))) ⌝ }
 {
     let m = Layout::scratch(x.len());
     vwp_wrapper(x, y, rings, floats, words, m, 4, 5, tolerance);
-    let count = links::list_kept(words, m, out);
-    list_ends(words, m, rings, ends);
-    lent::zero_scratch(floats, words, x.len());
-    count as u32
+    list_ends(words, m, rings, ring_out);
+    lent::finish(x.len(), out, floats, words)
 }
 
-// geo's wrapper: all rings share one memory, so that each sees the others.
+// geo's wrapper: thins the rings in the table's order. They share one memory, so that each sees the others.
 fn vwp_wrapper(
     x: &[f64],
     y: &[f64],
@@ -135,7 +142,14 @@ fn vwp_wrapper(
     if !lent::tolerance_positive(tolerance) {
         return;
     }
-    thin_rings(x, y, rings, floats, words, m, first, second, tolerance);
+    let mut lo = 0;
+    let mut k = 0;
+    while k < rings.len() {
+        let hi = rings[k] as usize;
+        moves::visvalingam_preserve(x, y, floats, words, m, lo, hi, first, second, tolerance);
+        lo = hi;
+        k += 1;
+    }
 }
 
 // Links each ring as one of which every point is kept.
@@ -153,32 +167,6 @@ fn link_rings(words: &mut [u32], m: Layout, rings: &[u32])
     }
 }
 
-// Thins the rings in the table's order.
-fn thin_rings(
-    x: &[f64],
-    y: &[f64],
-    rings: &[u32],
-    floats: &mut [f64],
-    words: &mut [u32],
-    m: Layout,
-    first: usize,
-    second: usize,
-    tolerance: f64,
-)
-    requires { ⌜ HasPoints m (now x) (now y) × Room m (now floats) (now words) × (m .points ≤ mostPoints) × Cuts (m .points) (now rings) ⌝ }
-    ensures { λ _. ⌜ AllDone (now (x .entry)) (now (y .entry)) (now (floats .entry)) (now (words .entry)) m (now (rings .entry)) (minima first second) tolerance
-        (now (floats .exit)) (now (words .exit)) ⌝ }
-{
-    let mut lo = 0;
-    let mut k = 0;
-    while k < rings.len() {
-        let hi = rings[k] as usize;
-        moves::visvalingam_preserve(x, y, floats, words, m, lo, hi, first, second, tolerance);
-        lo = hi;
-        k += 1;
-    }
-}
-
 // Lists where each ring ends in the kept list.
 fn list_ends(words: &[u32], m: Layout, rings: &[u32], ends: &mut [u32])
     requires { ⌜ HasLinks m (now words) × (m .points ≤ mostPoints) × Cuts (m .points) (now rings) × (length (now rings) ≤ length (now ends)) ⌝ }
@@ -186,24 +174,8 @@ fn list_ends(words: &[u32], m: Layout, rings: &[u32], ends: &mut [u32])
 {
     let mut k = 0;
     while k < rings.len() {
-        let count = count_below(words, m, rings[k] as usize);
+        let count = links::count_below(words, m, rings[k] as usize);
         ends[k] = count as u32;
         k += 1;
     }
-}
-
-// How many points below hi are kept.
-fn count_below(words: &[u32], m: Layout, hi: usize) -> usize
-    requires { ⌜ HasLinks m (now words) × (hi ≤ m .points) ⌝ }
-    ensures { λ r. ⌜ (r ≤ hi) × (r ≡ countBelow (now (words .entry)) m hi) ⌝ }
-{
-    let mut count = 0;
-    let mut i = 0;
-    while i < hi {
-        if links::kept(words, m, i) {
-            count += 1;
-        }
-        i += 1;
-    }
-    count
 }

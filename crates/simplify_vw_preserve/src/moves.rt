@@ -59,27 +59,16 @@ fn run(
     ensures { λ _. ⌜ RunDone (now (x .entry)) (now (y .entry)) (now (floats .entry)) (now (words .entry)) m len count (minima first second) tolerance
         (now (floats .exit)) (now (words .exit)) ⌝ }
 {
-    let mut scores = len;
+    let mut left = len;
     let mut kept = count;
     while 0 < kept {
-        let got = advance(
-            x,
-            y,
-            floats,
-            words,
-            m,
-            scores,
-            kept,
-            first,
-            second,
-            tolerance,
-        );
+        let got = advance(x, y, floats, words, m, left, kept, first, second, tolerance);
         match got {
             Moved::Stopped => {
                 return;
             }
             Moved::Removed(k) => {
-                scores = k;
+                left = k;
                 kept -= 1;
             }
         }

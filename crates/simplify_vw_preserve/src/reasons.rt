@@ -39,13 +39,12 @@ pub fn polygon_reason(
     if some_open(x, y, rings) {
         return Outcome::Refused(Reason::RingNotClosed);
     }
-    if outputs_short(room, x.len(), ends, rings.len()) {
-        return Outcome::Refused(Reason::OutputShort);
-    }
-    if lent::scratch_short(floats, words, x.len()) {
-        return Outcome::Refused(Reason::MemoryShort);
-    }
-    Outcome::Done
+    lent::memory_reason(
+        outputs_short(room, x.len(), ends, rings.len()),
+        floats,
+        words,
+        x.len(),
+    )
 }
 
 // 5: the table is empty, longer than 64 or decreasing, or its last entry is not the number of points.
@@ -98,7 +97,7 @@ fn is_open(x: &[f64], y: &[f64], lo: usize, hi: usize) -> bool
     if hi <= lo {
         return false;
     }
-    !segment::same(x[lo], y[lo], x[hi - 1], y[hi - 1])
+    !lent::same_point(x, y, lo, hi - 1)
 }
 
 // 7: for so many points and rings.

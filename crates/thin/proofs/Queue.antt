@@ -1,6 +1,6 @@
 -- The queue of scores: put to, popped from, and its first live score is the rule's candidate. Assumes nothing.
 use mathlib.Core.Path.{_≡_, refl, sym, ap, _∙_, subst}
-use mathlib.Core.Bool.{Bool, true, false, _&&_, and-false, false≢true}
+use mathlib.Core.Bool.{Bool, true, false, _&&_, and-false}
 use mathlib.Core.List.{List, [], _∷_}
 use mathlib.Core.Logic.{_⊎_, inl, inr, ⊎-elim}
 use mathlib.Core.Option.{none, some}
@@ -24,6 +24,7 @@ use Rattle.heap.proofs.Order.{count-same, heap-same, counted}
 use Rattle.heap.proofs.Scores.{first, key-is, pushed-all, popped-all}
 use Rattle.heap.proofs.Memory.{scores-same, framed-more}
 use Rattle.links.specs.Ring.{Triple, Live}
+use Rattle.links.proofs.Tests.{both}
 use Rattle.links.proofs.Neighbours.{then-first, then-further}
 use Rattle.links.proofs.Ring.{ring-up, alive-triple}
 use Rattle.thin.specs.Plot.{Points, ScoreOf, ScoredAs, scored, missing}
@@ -39,10 +40,6 @@ pub record Of (l c r : ℕ) (s : VScore) : Type 0 where
   pub left : s .left ≡ l
   pub current : s .current ≡ c
   pub right : s .right ≡ r
-
-both : (a b : Bool) → (a && b) ≡ true → (a ≡ true) × (b ≡ true)
-both true b h = (refl, h)
-both false b h = absurd (false≢true h)
 
 triple-of : (l c r : ℕ) (s : VScore) → triple l c r s ≡ true → Of l c r s
 unfolding triple

@@ -62,15 +62,14 @@ pub fn pick(floats: &mut [f64], words: &mut [u32], m: Layout, len: usize, tolera
     while 0 < k {
         let top = heap::load(floats, words, m, 0);
         let alive = links::live(words, m, top);
-        if alive {
-            if grid::above(top.area, tolerance) {
-                return Picked::Nothing(k);
-            }
-            let s = heap::pop(floats, words, m, k - 1);
-            return Picked::Found(s, k - 1);
+        if alive & grid::above(top.area, tolerance) {
+            return Picked::Nothing(k);
         }
         heap::pop(floats, words, m, k - 1);
         k -= 1;
+        if alive {
+            return Picked::Found(top, k);
+        }
     }
     Picked::Nothing(0)
 }

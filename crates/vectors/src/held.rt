@@ -1,8 +1,6 @@
 // What lent memory holds before and after a call.
 ghost use mathlib.Core.Path.{_≡_};
 ghost use lib.ListN.{length};
-ghost use Rattle.rule.specs.Answers.{number};
-use rule::Reason;
 use rule::Scratch;
 use rule::Thinned;
 
@@ -59,38 +57,11 @@ pub fn is_answer(got: Thinned, reason: u32, n: u32) -> bool {
             count == n
         }
         Thinned::Refused(w) => {
-            if number(w) != reason {
+            if w.number() != reason {
                 return false;
             }
-            place(w) == n
+            w.place() == n
         }
-    }
-}
-
-// The number of a reason in document 01's table.
-fn number(w: Reason) -> u32
-    ensures { λ r. ⌜ r ≡ number w ⌝ }
-{
-    match w {
-        Reason::LengthsDiffer => 1,
-        Reason::TooManyPoints => 2,
-        Reason::OffGrid(_) => 3,
-        Reason::ToleranceNotFinite => 4,
-        Reason::RingTable => 5,
-        Reason::RingNotClosed => 6,
-        Reason::OutputShort => 7,
-        Reason::MemoryShort => 8,
-        Reason::NoSuchSlot => 9,
-        Reason::SlotIsOpen => 10,
-        Reason::SlotNotOpen => 11,
-    }
-}
-
-// The point that comes with reason 3.
-fn place(w: Reason) -> u32 {
-    match w {
-        Reason::OffGrid(i) => i.0,
-        _ => 0,
     }
 }
 

@@ -5,22 +5,17 @@ use Prim.Native.Nat.{_-_, _+_, _*_}
 use native.Mathlib.Omega.{arith}
 use borrow.Author.Needs.{needs}
 use borrow.Author.Tests.{not-true, not-false}
+use Rattle.heap.specs.Order.{children}
 use Rattle.heap.proofs.pop.Proof.Sinking.{Down, down-start, down-holds, down-turn, down-end, down-stop, down-rest}
 use Rattle.heap.proofs.pop.Statement.{statement}
 use Rattle.heap.proofs.pop.Tie as tie
 mod Sinking
 
 abbrev Inv-loop : tie.InvT-loop
-Inv-loop floats₀ words₀ m n top s j₀ c₀ floats words j c = (c ≡ 2 * j + 1) × Down floats₀ words₀ m n s floats words j
+Inv-loop floats₀ words₀ m n top s j₀ c₀ floats words j c = (c ≡ children * j + 1) × Down floats₀ words₀ m n s floats words j
 
 abbrev μ-loop : tie.MeasureT-loop
 μ-loop floats₀ words₀ m n top s j₀ c₀ floats words j c = n - j
-
-load-requires : tie.Need-load-requires Inv-loop μ-loop
-load-requires c κs = search needs
-
-load-requires-2 : tie.Need-load-requires-2 Inv-loop μ-loop
-load-requires-2 c κs = search needs
 
 loop-holds : tie.Need-loop-holds Inv-loop μ-loop
 loop-holds c = (refl, down-start (c .before .before .before .before .before .before .before .before .pre) (c .load2 .ensures))
@@ -30,9 +25,6 @@ first-of-requires c κs = let l = c .before .before in (l .loop-test .taken, dow
 
 load-requires-3 : tie.Need-load-requires-3 Inv-loop μ-loop
 load-requires-3 c κs = let d = c .before .before in down-holds (d .before .before .before .before .loop .inv .1) (omega (arith, d .first-of .ensures .within))
-
-sooner-requires : tie.Need-sooner-requires Inv-loop μ-loop
-sooner-requires c κs = search needs
 
 store-requires : tie.Need-store-requires Inv-loop μ-loop
 store-requires c κs = let u = c .before .before .before .before .before .before .before .before .before .before .before .loop .inv .1 in down-holds u (u .low)
@@ -91,12 +83,12 @@ pop-spec =
     (tie.spec
     Inv-loop
     μ-loop
-    load-requires
-    load-requires-2
+    (λ c κs. search needs)
+    (λ c κs. search needs)
     loop-holds
     first-of-requires
     load-requires-3
-    sooner-requires
+    (λ c κs. search needs)
     store-requires
     mul-c
     add-c

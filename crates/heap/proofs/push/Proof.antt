@@ -18,20 +18,11 @@ abbrev μ-loop : tie.MeasureT-loop
 loop-holds : tie.Need-loop-holds Inv-loop μ-loop
 loop-holds c = up-start _ (c .before .before .pre)
 
-sub-p : tie.Need-sub-p Inv-loop μ-loop
-sub-p c = omega arith
-
 load-requires : tie.Need-load-requires Inv-loop μ-loop
 load-requires c κs = let u = c .before .before .before .loop .inv in up-holds u (omega (arith, u .low))
 
-sooner-requires : tie.Need-sooner-requires Inv-loop μ-loop
-sooner-requires c κs = search needs
-
 store-requires : tie.Need-store-requires Inv-loop μ-loop
 store-requires c κs = let u = c .before .before .before .before .before .before .before .before .loop .inv in up-holds u (u .low)
-
-loop-less : tie.Need-loop-less Inv-loop μ-loop
-loop-less c = omega arith
 
 loop-again : tie.Need-loop-again Inv-loop μ-loop
 loop-again c =
@@ -66,11 +57,11 @@ push-spec =
     Inv-loop
     μ-loop
     loop-holds
-    sub-p
+    (λ c. omega arith)
     load-requires
-    sooner-requires
+    (λ c κs. search needs)
     store-requires
-    loop-less
+    (λ c. omega arith)
     loop-again
     store-requires-2
     same-length

@@ -5,9 +5,6 @@ use Rattle.rule.specs.Sizes.{areaFloats}
 use Rattle.lent.proofs.area_short.Statement.{statement}
 use Rattle.lent.proofs.area_short.Tie as tie
 
-new-requires : tie.Need-new-requires
-new-requires c κs = search needs
-
 returns : tie.Need-returns
 returns c = rw (← c .before .before .new .ensures .0, lt-ltb (c .before .before .new .result .floats) areaFloats (c .if1 .taken))
 
@@ -17,4 +14,4 @@ returns-2 c =
     rw (← n .ensures .0, ← n .ensures .1, le-ltb (n .result .floats) areaFloats (c .before .if1 .left))
 
 pub area-short-spec : {M : Type 1} → statement M
-area-short-spec = tie.close (tie.spec new-requires returns returns-2)
+area-short-spec = tie.close (tie.spec (λ c κs. search needs) returns returns-2)

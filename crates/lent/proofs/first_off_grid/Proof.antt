@@ -32,28 +32,10 @@ loop-holds c = (omega arith, refl)
 returns : tie.Need-returns Inv-loop μ-loop
 returns c = let l = c .before .before in sym (l .loop .inv .1 ∙ end-y (us l) (vs l) (l .loop .i) (omega arith))
 
-mul-on-grid : tie.Need-mul-on-grid Inv-loop μ-loop
-mul-on-grid c = search needs
-
-shared-slice-read-on-grid : tie.Need-shared-slice-read-on-grid Inv-loop μ-loop
-shared-slice-read-on-grid c = search needs
-
-on-grid-requires : tie.Need-on-grid-requires Inv-loop μ-loop
-on-grid-requires c κs = search needs
-
 returns-2 : tie.Need-returns-2 Inv-loop μ-loop
 returns-2 c =
     let l = c .before .before .before .before .before in
     sym (l .loop .inv .1 ∙ off-x (us l) (vs l) (l .loop .i) (omega arith) (omega arith) (sym (c .before .on-grid .ensures) ∙ not-true _ (c .if2 .taken)))
-
-mul-on-grid-2 : tie.Need-mul-on-grid-2 Inv-loop μ-loop
-mul-on-grid-2 c = search needs
-
-shared-slice-read-on-grid-2 : tie.Need-shared-slice-read-on-grid-2 Inv-loop μ-loop
-shared-slice-read-on-grid-2 c = search needs
-
-on-grid-requires-2 : tie.Need-on-grid-requires-2 Inv-loop μ-loop
-on-grid-requires-2 c κs = search needs
 
 returns-3 : tie.Need-returns-3 Inv-loop μ-loop
 returns-3 c =
@@ -61,12 +43,6 @@ returns-3 c =
     let l = x .before .before .before .before .before in
     let on-x = sym (x .before .on-grid .ensures) ∙ not-false _ (x .if2 .left) in
     sym (l .loop .inv .1 ∙ off-y (us l) (vs l) (l .loop .i) (omega arith) (omega arith) on-x (sym (c .before .on-grid2 .ensures) ∙ not-true _ (c .if3 .taken)))
-
-add-i : tie.Need-add-i Inv-loop μ-loop
-add-i c = search needs
-
-loop-less : tie.Need-loop-less Inv-loop μ-loop
-loop-less c = search needs
 
 loop-again : tie.Need-loop-again Inv-loop μ-loop
 loop-again c =
@@ -82,5 +58,5 @@ returns-4 c = let l = c .before in sym (l .loop .inv .1 ∙ end-x (us l) (vs l) 
 pub first-off-grid-spec : {M : Type 1} → statement M
 first-off-grid-spec =
     tie.close
-    (tie.spec Inv-loop μ-loop loop-holds returns mul-on-grid shared-slice-read-on-grid on-grid-requires returns-2 mul-on-grid-2 shared-slice-read-on-grid-2
-    on-grid-requires-2 returns-3 add-i loop-less loop-again returns-4)
+    (tie.spec Inv-loop μ-loop loop-holds returns (λ c. search needs) (λ c. search needs) (λ c κs. search needs) returns-2 (λ c. search needs) (λ c. search needs)
+    (λ c κs. search needs) returns-3 (λ c. search needs) (λ c. search needs) loop-again returns-4)

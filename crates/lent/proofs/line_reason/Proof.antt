@@ -48,29 +48,14 @@ module _ (c : tie.After-first-off-grid) where
 
 -- ---- the rows
 
-lengths-differ-requires : tie.Need-lengths-differ-requires
-lengths-differ-requires c κs = search needs
-
 returns : tie.Need-returns
 returns c = rw (sym (c .before .lengths-differ .ensures) ∙ c .if1 .taken)
-
-too-many-points-requires : tie.Need-too-many-points-requires
-too-many-points-requires c κs = search needs
 
 returns-2 : tie.Need-returns-2
 returns-2 c = rw (level (c .before .before), sym (c .before .too-many-points .ensures) ∙ c .if2 .taken)
 
-tolerance-not-finite-requires : tie.Need-tolerance-not-finite-requires
-tolerance-not-finite-requires c κs = search needs
-
 returns-3 : tie.Need-returns-3
 returns-3 c = rw (level (c .before .before .before .before), few (c .before .before), sym (c .before .tolerance-not-finite .ensures) ∙ c .if3 .taken)
-
-first-off-grid-requires : tie.Need-first-off-grid-requires
-first-off-grid-requires c κs = search needs
-
-enum-known-i : tie.Need-enum-known-i
-enum-known-i c = search needs
 
 cast-t12 : tie.Need-cast-t12
 cast-t12 c =
@@ -82,14 +67,11 @@ cast-t12 c =
 returns-4 : tie.Need-returns-4
 returns-4 c = let f = c .before .before .before in rw (level (entry f), few (passed f), finite (f .before), off-grid f _ (c .before .i .given .1))
 
-enum-told : tie.Need-enum-told
-enum-told c = search needs
-
 returns-5 : tie.Need-returns-5
 returns-5 c = let f = c .before .before in rw (level (entry f), few (passed f), finite (f .before), off-grid f _ (c .enum-told .given .1))
 
 pub line-reason-spec : {M : Type 1} → statement M
 line-reason-spec =
     tie.close
-    (tie.spec lengths-differ-requires returns too-many-points-requires returns-2 tolerance-not-finite-requires returns-3 first-off-grid-requires enum-known-i cast-t12
-    returns-4 enum-told returns-5)
+    (tie.spec (λ c κs. search needs) returns (λ c κs. search needs) returns-2 (λ c κs. search needs) returns-3 (λ c κs. search needs) (λ c. search needs) cast-t12
+    returns-4 (λ c. search needs) returns-5)

@@ -10,9 +10,6 @@ use Rattle.rule.specs.Sizes.{scratchFloats, scratchWords}
 use Rattle.lent.proofs.scratch_short.Statement.{statement}
 use Rattle.lent.proofs.scratch_short.Tie as tie
 
-new-requires : tie.Need-new-requires
-new-requires c κs = search needs
-
 returns : tie.Need-returns
 returns c =
     let s = c .before .before .new in
@@ -33,4 +30,4 @@ returns-2 c =
         go false e = sym (le-ltb places (scratchWords n) (omega (arith, ltb-false (places / scratchWords 1) n e)))
 
 pub scratch-short-spec : {M : Type 1} → statement M
-scratch-short-spec = tie.close (tie.spec new-requires returns returns-2)
+scratch-short-spec = tie.close (tie.spec (λ c κs. search needs) returns returns-2)

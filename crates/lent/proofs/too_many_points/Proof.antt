@@ -6,11 +6,8 @@ use Rattle.rule.specs.Sizes.{mostPoints}
 use Rattle.lent.proofs.too_many_points.Statement.{statement}
 use Rattle.lent.proofs.too_many_points.Tie as tie
 
-new-requires : tie.Need-new-requires
-new-requires c κs = search needs
-
 returns : tie.Need-returns
 returns c = ap (ltb mostPoints) (c .before .new .ensures)
 
 pub too-many-points-spec : {M : Type 1} → statement M
-too-many-points-spec = tie.close (tie.spec new-requires returns)
+too-many-points-spec = tie.close (tie.spec (λ c κs. search needs) returns)

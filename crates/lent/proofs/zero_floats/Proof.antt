@@ -16,18 +16,6 @@ abbrev μ-loop : tie.MeasureT-loop
 loop-holds : tie.Need-loop-holds Inv-loop μ-loop
 loop-holds c = none-yet
 
-mul-floats : tie.Need-mul-floats Inv-loop μ-loop
-mul-floats c = omega arith
-
-slice-write-floats : tie.Need-slice-write-floats Inv-loop μ-loop
-slice-write-floats c = omega arith
-
-add-i : tie.Need-add-i Inv-loop μ-loop
-add-i c = omega arith
-
-loop-less : tie.Need-loop-less Inv-loop μ-loop
-loop-less c = omega arith
-
 loop-again : tie.Need-loop-again Inv-loop μ-loop
 unfolding ofBits
 loop-again c = next-zero (c .before .before .pre) (c .loop-test .taken) (c .before .loop .inv)
@@ -39,4 +27,6 @@ returns : tie.Need-returns Inv-loop μ-loop
 returns c = all-zero (c .loop-test .left) (c .before .loop .inv)
 
 pub zero-floats-spec : {M : Type 1} → statement M
-zero-floats-spec = tie.close (tie.spec Inv-loop μ-loop loop-holds mul-floats slice-write-floats add-i loop-less loop-again same-length returns)
+zero-floats-spec =
+    tie.close
+    (tie.spec Inv-loop μ-loop loop-holds (λ c. omega arith) (λ c. omega arith) (λ c. omega arith) (λ c. omega arith) loop-again same-length returns)

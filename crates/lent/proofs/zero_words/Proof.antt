@@ -14,18 +14,6 @@ abbrev μ-loop : tie.MeasureT-loop
 loop-holds : tie.Need-loop-holds Inv-loop μ-loop
 loop-holds c = none-yet
 
-mul-words : tie.Need-mul-words Inv-loop μ-loop
-mul-words c = omega arith
-
-slice-write-words : tie.Need-slice-write-words Inv-loop μ-loop
-slice-write-words c = omega arith
-
-add-j : tie.Need-add-j Inv-loop μ-loop
-add-j c = omega arith
-
-loop-less : tie.Need-loop-less Inv-loop μ-loop
-loop-less c = omega arith
-
 loop-again : tie.Need-loop-again Inv-loop μ-loop
 loop-again c = next-zero (c .before .before .pre) (c .loop-test .taken) (c .before .loop .inv)
 
@@ -36,4 +24,6 @@ returns : tie.Need-returns Inv-loop μ-loop
 returns c = all-zero (c .loop-test .left) (c .before .loop .inv)
 
 pub zero-words-spec : {M : Type 1} → statement M
-zero-words-spec = tie.close (tie.spec Inv-loop μ-loop loop-holds mul-words slice-write-words add-j loop-less loop-again same-length returns)
+zero-words-spec =
+    tie.close
+    (tie.spec Inv-loop μ-loop loop-holds (λ c. omega arith) (λ c. omega arith) (λ c. omega arith) (λ c. omega arith) loop-again same-length returns)

@@ -16,12 +16,6 @@ abbrev μ-loop : tie.MeasureT-loop
 loop-holds : tie.Need-loop-holds Inv-loop μ-loop
 loop-holds c = let z = c .before .pre in linking-start (z .0) (z .2) (z .3)
 
-point-before-requires : tie.Need-point-before-requires Inv-loop μ-loop
-point-before-requires c κs = search needs
-
-point-after-requires : tie.Need-point-after-requires Inv-loop μ-loop
-point-after-requires c κs = search needs
-
 cast-join : tie.Need-cast-join Inv-loop μ-loop
 cast-join c =
     let b = c .before .before in
@@ -35,15 +29,6 @@ cast-join-2 c =
     let l = b .before .before .before in
     let a = l .before .before .args in
     omega (arith, b .point-after .ensures, ahead-small (a .hi) (a .m .points) (l .loop .i) (omega (arith, b .before .before .loop-test .taken)))
-
-join-requires : tie.Need-join-requires Inv-loop μ-loop
-join-requires c κs = search needs
-
-add-i : tie.Need-add-i Inv-loop μ-loop
-add-i c = omega arith
-
-loop-less : tie.Need-loop-less Inv-loop μ-loop
-loop-less c = omega arith
 
 loop-again : tie.Need-loop-again Inv-loop μ-loop
 loop-again c =
@@ -66,13 +51,13 @@ link-spec =
     Inv-loop
     μ-loop
     loop-holds
-    point-before-requires
-    point-after-requires
+    (λ c κs. search needs)
+    (λ c κs. search needs)
     cast-join
     cast-join-2
-    join-requires
-    add-i
-    loop-less
+    (λ c κs. search needs)
+    (λ c. omega arith)
+    (λ c. omega arith)
     loop-again
     same-length
     returns)

@@ -4,9 +4,6 @@ use borrow.Author.Needs.{needs}
 use Rattle.links.proofs.point_before.Statement.{statement}
 use Rattle.links.proofs.point_before.Tie as tie
 
-sub-result : tie.Need-sub-result
-sub-result c = search needs
-
 returns : tie.Need-returns
 returns c = rw (lt-ltb _ _ (c .if1 .taken))
 
@@ -14,4 +11,4 @@ returns-2 : tie.Need-returns-2
 returns-2 c = rw (le-ltb _ _ (c .if1 .left))
 
 pub point-before-spec : {M : Type 1} → statement M
-point-before-spec = tie.close (tie.spec sub-result returns returns-2)
+point-before-spec = tie.close (tie.spec (λ c. search needs) returns returns-2)

@@ -37,12 +37,6 @@ module _ (c : tie.After-step Inv-loop μ-loop) where
   abbrev turn : tie.At-loop Inv-loop μ-loop
   turn = c .before .before .before .before .before
 
-link-requires : tie.Need-link-requires Inv-loop μ-loop
-link-requires c κs = search needs
-
-seed-requires : tie.Need-seed-requires Inv-loop μ-loop
-seed-requires c κs = search needs
-
 loop-holds : tie.Need-loop-holds Inv-loop μ-loop
 loop-holds c = (refl, refl, c .before .before .before .before .seed .ensures .few)
 
@@ -52,38 +46,11 @@ step-requires c κs =
     let z = start l .pre in
     (z .0, room-as (areas l) (level l) (z .1), l .loop .inv .2)
 
-enum-told : tie.Need-enum-told Inv-loop μ-loop
-enum-told c = search needs
-
 same-length : tie.Need-same-length Inv-loop μ-loop
 same-length c = let s = c .before .before .before .before .before .before in s .step .kept .1 .1 .0 ∙ areas (turn s)
 
 same-length-2 : tie.Need-same-length-2 Inv-loop μ-loop
 same-length-2 c = let s = c .before .before .before .before .before .before in s .step .kept .1 .1 .1 .0 ∙ level (turn s)
-
-returns : tie.Need-returns Inv-loop μ-loop
-returns c = search needs
-
-enum-known-i : tie.Need-enum-known-i Inv-loop μ-loop
-enum-known-i c = search needs
-
-cast-fold : tie.Need-cast-fold Inv-loop μ-loop
-cast-fold c = search needs
-
-fold-requires : tie.Need-fold-requires Inv-loop μ-loop
-fold-requires c κs = search needs
-
-bits-requires : tie.Need-bits-requires Inv-loop μ-loop
-bits-requires c κs = search needs
-
-fold-requires-2 : tie.Need-fold-requires-2 Inv-loop μ-loop
-fold-requires-2 c κs = search needs
-
-add-made : tie.Need-add-made Inv-loop μ-loop
-add-made c = omega arith
-
-loop-less : tie.Need-loop-less Inv-loop μ-loop
-loop-less c = omega arith
 
 loop-again : tie.Need-loop-again Inv-loop μ-loop
 loop-again c =
@@ -101,11 +68,9 @@ same-length-3 c = areas (c .before .before)
 same-length-4 : tie.Need-same-length-4 Inv-loop μ-loop
 same-length-4 c = level (c .before .before)
 
-returns-2 : tie.Need-returns-2 Inv-loop μ-loop
-returns-2 c = search needs
-
 pub run-spec : {M : Type 1} → statement M
 run-spec =
     tie.close
-    (tie.spec Inv-loop μ-loop link-requires seed-requires loop-holds step-requires enum-told same-length same-length-2 returns enum-known-i cast-fold fold-requires
-    bits-requires fold-requires-2 add-made loop-less loop-again same-length-3 same-length-4 returns-2)
+    (tie.spec Inv-loop μ-loop (λ c κs. search needs) (λ c κs. search needs) loop-holds step-requires (λ c. search needs) same-length same-length-2
+    (λ c. search needs) (λ c. search needs) (λ c. search needs) (λ c κs. search needs) (λ c κs. search needs) (λ c κs. search needs) (λ c. omega arith) (λ c. omega arith)
+    loop-again same-length-3 same-length-4 (λ c. search needs))

@@ -5,18 +5,6 @@ use Rattle.pylonfrith.proofs.Same.{packed-as}
 use Rattle.pylonfrith.proofs.pack_outcome.Statement.{statement}
 use Rattle.pylonfrith.proofs.pack_outcome.Tie as tie
 
-enum-told : tie.Need-enum-told
-enum-told c = search needs
-
-halves-requires : tie.Need-halves-requires
-halves-requires c κs = search needs
-
-enum-known-answer : tie.Need-enum-known-answer
-enum-known-answer c = search needs
-
-pack-refused-requires : tie.Need-pack-refused-requires
-pack-refused-requires c κs = search needs
-
 returns : tie.Need-returns
 returns c = packed-as ofOutcome (c .before .enum-told .given .1) (c .halves .ensures)
 
@@ -26,4 +14,4 @@ returns-2 c = packed-as ofOutcome (c .before .before .answer .given .1) (c .pack
 pub pack-outcome-spec : {M : Type 1} → statement M
 pack-outcome-spec =
     tie.close
-    (tie.spec enum-told halves-requires enum-known-answer pack-refused-requires returns returns-2)
+    (tie.spec (λ c. search needs) (λ c κs. search needs) (λ c. search needs) (λ c κs. search needs) returns returns-2)

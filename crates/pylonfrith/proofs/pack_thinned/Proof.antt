@@ -5,18 +5,6 @@ use Rattle.pylonfrith.proofs.Same.{packed-as}
 use Rattle.pylonfrith.proofs.pack_thinned.Statement.{statement}
 use Rattle.pylonfrith.proofs.pack_thinned.Tie as tie
 
-enum-known-answer : tie.Need-enum-known-answer
-enum-known-answer c = search needs
-
-halves-requires : tie.Need-halves-requires
-halves-requires c κs = search needs
-
-enum-known-answer-2 : tie.Need-enum-known-answer-2
-enum-known-answer-2 c = search needs
-
-pack-refused-requires : tie.Need-pack-refused-requires
-pack-refused-requires c κs = search needs
-
 returns : tie.Need-returns
 returns c = packed-as ofThinned (c .before .before .answer .given .1) (c .halves .ensures)
 
@@ -26,10 +14,4 @@ returns-2 c = packed-as ofThinned (c .before .before .answer2 .given .1) (c .pac
 pub pack-thinned-spec : {M : Type 1} → statement M
 pack-thinned-spec =
     tie.close
-    (tie.spec
-    enum-known-answer
-    halves-requires
-    enum-known-answer-2
-    pack-refused-requires
-    returns
-    returns-2)
+    (tie.spec (λ c. search needs) (λ c κs. search needs) (λ c. search needs) (λ c κs. search needs) returns returns-2)

@@ -26,9 +26,6 @@ next ps p from j h b e =
     let k : from + (j - 1 - from) ≡ j - 1 = omega arith in
     rw (s, k, e)
 
-start-requires : tie.Need-start-requires Inv-loop μ-loop
-start-requires c κs = search needs
-
 loop-holds : tie.Need-loop-holds Inv-loop μ-loop
 unfolding isNew
 loop-holds c =
@@ -36,9 +33,6 @@ loop-holds c =
     let ps = points (a .x .now) (a .y .now) in
     let e : c .start .result ≡ a .i - a .back = c .start .ensures in
     (omega arith, omega arith, ap (λ (k : ℕ). not (among ps (at ps (a .i)) k (a .i - k))) (sym e))
-
-sub-j : tie.Need-sub-j Inv-loop μ-loop
-sub-j c = search needs
 
 same-point-requires : tie.Need-same-point-requires Inv-loop μ-loop
 same-point-requires c κs = let s = c .before .before .before .before .before in (s .pre .0, omega (arith, s .pre .1), omega (arith, s .pre .1))
@@ -62,9 +56,6 @@ module _ (c : tie.After-same-point Inv-loop μ-loop) where
 returns : tie.Need-returns Inv-loop μ-loop
 returns c = sym (compared (c .before) _ (c .if1 .taken))
 
-loop-less : tie.Need-loop-less Inv-loop μ-loop
-loop-less c = search needs
-
 loop-again : tie.Need-loop-again Inv-loop μ-loop
 loop-again c = (omega arith, omega arith, compared (c .before) _ (c .if1 .left))
 
@@ -76,4 +67,6 @@ returns-2 c =
     rw e at (sym (l .loop .inv .2))
 
 pub is-new-spec : {M : Type 1} → statement M
-is-new-spec = tie.close (tie.spec Inv-loop μ-loop start-requires loop-holds sub-j same-point-requires returns loop-less loop-again returns-2)
+is-new-spec =
+    tie.close
+    (tie.spec Inv-loop μ-loop (λ c κs. search needs) loop-holds (λ c. search needs) same-point-requires returns (λ c. search needs) loop-again returns-2)

@@ -1,15 +1,15 @@
 -- `remove_repeated_points::keep_new` meets its contract. Assumes nothing.
-use mathlib.Core.Path.{_≡_, sym, ap, _∙_}
+use mathlib.Core.Path.{_≡_}
 use mathlib.Core.List.{List}
 use Prim.Native.Nat.{ℕ}
 use lib.ListN.{length}
 use lib.Ieee.{Float}
 use borrow.Author.Needs.{needs}
 use Rattle.rule.specs.declared.Outcome.the-variants.{Done}
-use Rattle.rule.specs.Answers.{refusedFor, ofOutcome}
+use Rattle.rule.specs.Answers.{refusedFor}
 use Rattle.rule.specs.Reasons.{firstOffGrid, repeatReason}
 use Rattle.rule.specs.Whole.{Lists}
-use Rattle.lent.proofs.Verdict.{accepted, refused-call}
+use Rattle.lent.proofs.Verdict.{as-told, accepted, refused-call}
 use Rattle.lent.proofs.Rows.{repeat-fine, repeat-room}
 use Rattle.remove_repeated_points.specs.Back.{allNew}
 use Rattle.remove_repeated_points.proofs.Calls.{listed-call}
@@ -31,23 +31,13 @@ module _ (c : tie.After-repeat-reason) where
   back = c .before .before .before .before .args .back
 
   no-reason : c .repeat-reason .result ≡ Done → repeatReason us vs (length held) ≡ 0
-  no-reason e = accepted (repeatReason us vs (length held)) (firstOffGrid us vs) (ap ofOutcome (sym e) ∙ c .repeat-reason .ensures)
+  no-reason e = accepted (repeatReason us vs (length held)) (firstOffGrid us vs) (as-told e (c .repeat-reason .ensures))
 
 refused-at : (c : tie.After-known-told)
     → let t = c .before .before .before in Lists (allNew (back t)) (us t) (vs t) (held t) (refusedFor (c .before .reason .given .0 .0)) (held t)
 refused-at c =
     let t = c .before .before .before in
-    let e = ap ofOutcome (sym (c .before .reason .given .1)) ∙ t .repeat-reason .ensures in
-    refused-call (repeatReason (us t) (vs t) (length (held t))) (c .before .reason .given .0 .0) e
-
-repeat-reason-requires : tie.Need-repeat-reason-requires
-repeat-reason-requires c κs = search needs
-
-enum-known-reason : tie.Need-enum-known-reason
-enum-known-reason c = search needs
-
-enum-told : tie.Need-enum-told
-enum-told c = search needs
+    refused-call (repeatReason (us t) (vs t) (length (held t))) (c .before .reason .given .0 .0) (as-told (c .before .reason .given .1) (t .repeat-reason .ensures))
 
 list-new-requires : tie.Need-list-new-requires
 list-new-requires c κs =
@@ -58,9 +48,6 @@ list-new-requires c κs =
 returns : tie.Need-returns
 returns c = refused-at c
 
-same-length : tie.Need-same-length
-same-length c = search needs
-
 returns-2 : tie.Need-returns-2
 returns-2 c =
     let l = c .before .before in
@@ -68,4 +55,4 @@ returns-2 c =
     listed-call (us t) (vs t) (held t) (no-reason t (l .before .before .enum-told .given .1)) (l .list-new .ensures)
 
 pub keep-new-spec : {M : Type 1} → statement M
-keep-new-spec = tie.close (tie.spec repeat-reason-requires enum-known-reason enum-told list-new-requires returns same-length returns-2)
+keep-new-spec = tie.close (tie.spec (λ c κs. search needs) (λ c. search needs) (λ c. search needs) list-new-requires returns (λ c. search needs) returns-2)

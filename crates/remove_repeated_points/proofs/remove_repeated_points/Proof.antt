@@ -8,12 +8,6 @@ use Rattle.remove_repeated_points.proofs.Calls.{same-call}
 use Rattle.remove_repeated_points.proofs.remove_repeated_points.Statement.{statement}
 use Rattle.remove_repeated_points.proofs.remove_repeated_points.Tie as tie
 
-keep-new-requires : tie.Need-keep-new-requires
-keep-new-requires c κs = search needs
-
-same-length : tie.Need-same-length
-same-length c = search needs
-
 returns : tie.Need-returns
 returns c =
     let k = c .before .before in
@@ -21,4 +15,4 @@ returns c =
     same-call (allNew 1) consecutive (a .x .now) (a .y .now) (a .out .now) (λ z. consecutive-is (points (a .x .now) (a .y .now))) (k .keep-new .ensures)
 
 pub remove-repeated-points-spec : {M : Type 1} → statement M
-remove-repeated-points-spec = tie.close (tie.spec keep-new-requires same-length returns)
+remove-repeated-points-spec = tie.close (tie.spec (λ c κs. search needs) (λ c. search needs) returns)

@@ -13,12 +13,6 @@ use Rattle.remove_repeated_points.proofs.Calls.{same-call}
 use Rattle.remove_repeated_points.proofs.remove_repeated_points_anywhere.Statement.{statement}
 use Rattle.remove_repeated_points.proofs.remove_repeated_points_anywhere.Tie as tie
 
-keep-new-requires : tie.Need-keep-new-requires
-keep-new-requires c κs = search needs
-
-same-length : tie.Need-same-length
-same-length c = search needs
-
 returns : tie.Need-returns
 returns c =
     let k = c .before .before in
@@ -30,4 +24,4 @@ returns c =
     (k .keep-new .ensures)
 
 pub remove-repeated-points-anywhere-spec : {M : Type 1} → statement M
-remove-repeated-points-anywhere-spec = tie.close (tie.spec keep-new-requires same-length returns)
+remove-repeated-points-anywhere-spec = tie.close (tie.spec (λ c κs. search needs) (λ c. search needs) returns)

@@ -7,17 +7,11 @@ use Rattle.rule.specs.Segment.{meets}
 use Rattle.segment.proofs.meets.Statement.{statement}
 use Rattle.segment.proofs.meets.Tie as tie
 
-overlap-requires : tie.Need-overlap-requires
-overlap-requires c κs = search needs
-
 returns : tie.Need-returns
 unfolding meets
 returns k a b c d =
     let x = k .before in
     rw (← x .overlap .ensures (a .x) (b .x) (c .x) (d .x), not-true (x .overlap .result) (k .if1 .taken))
-
-overlap-requires-2 : tie.Need-overlap-requires-2
-overlap-requires-2 c κs = search needs
 
 returns-2 : tie.Need-returns-2
 unfolding meets
@@ -30,9 +24,6 @@ returns-2 k a b c d =
       ← y .overlap2 .ensures (a .y) (b .y) (c .y) (d .y),
       not-true (y .overlap2 .result) (k .if2 .taken),
     )
-
-one-side-requires : tie.Need-one-side-requires
-one-side-requires c κs = search needs
 
 returns-3 : tie.Need-returns-3
 unfolding meets
@@ -48,9 +39,6 @@ returns-3 k a b c d =
       ← s .one-side .ensures a b c d,
       k .if3 .taken,
     )
-
-one-side-requires-2 : tie.Need-one-side-requires-2
-one-side-requires-2 c κs = search needs
 
 returns-4 : tie.Need-returns-4
 unfolding meets
@@ -68,14 +56,4 @@ returns-4 k a b c d =
     ) (ap not (k .one-side2 .ensures c d a b))
 
 pub meets-spec : {M : Type 1} → statement M
-meets-spec =
-    tie.close
-    (tie.spec
-    overlap-requires
-    returns
-    overlap-requires-2
-    returns-2
-    one-side-requires
-    returns-3
-    one-side-requires-2
-    returns-4)
+meets-spec = tie.close (tie.spec (λ c κs. search needs) returns (λ c κs. search needs) returns-2 (λ c κs. search needs) returns-3 (λ c κs. search needs) returns-4)

@@ -5,15 +5,9 @@ use Rattle.rule.specs.Segment.{overlap}
 use Rattle.segment.proofs.overlap.Statement.{statement}
 use Rattle.segment.proofs.overlap.Tie as tie
 
-reaches-requires : tie.Need-reaches-requires
-reaches-requires c κs = search needs
-
 returns : tie.Need-returns
 unfolding overlap
 returns k a b c d = rw (← k .before .reaches .ensures a b c d, not-true (k .before .reaches .result) (k .if1 .taken))
-
-reaches-requires-2 : tie.Need-reaches-requires-2
-reaches-requires-2 c κs = search needs
 
 returns-2 : tie.Need-returns-2
 unfolding overlap
@@ -22,4 +16,4 @@ returns-2 k a b c d =
     rw (← r .reaches .ensures a b c d, not-false (r .reaches .result) (k .before .if1 .left)) (k .reaches2 .ensures c d a b)
 
 pub overlap-spec : {M : Type 1} → statement M
-overlap-spec = tie.close (tie.spec reaches-requires returns reaches-requires-2 returns-2)
+overlap-spec = tie.close (tie.spec (λ c κs. search needs) returns (λ c κs. search needs) returns-2)

@@ -1,36 +1,36 @@
 -- `segment::reaches` meets its contract. Assumes nothing.
-use Rattle.grid.proofs.Whole.{on-grid, le-whole}
+use Rattle.grid.proofs.Whole.{le-grid}
 use Rattle.segment.proofs.reaches.Statement.{statement}
 use Rattle.segment.proofs.reaches.Tie as tie
 
 returns : tie.Need-returns
-returns k a b c d = rw (← le-whole (on-grid _ a) (on-grid _ c), k .if1 .taken)
+returns k a b c d = rw (← le-grid _ _ a c, k .if1 .taken)
 
 returns-2 : tie.Need-returns-2
 returns-2 k a b c d =
-    rw (← le-whole (on-grid _ a) (on-grid _ c), k .before .if1 .left, ← le-whole (on-grid _ a) (on-grid _ d), k .if2 .taken)
+    rw (← le-grid _ _ a c, k .before .if1 .left, ← le-grid _ _ a d, k .if2 .taken)
 
 returns-3 : tie.Need-returns-3
 returns-3 k a b c d =
     rw (
-      ← le-whole (on-grid _ a) (on-grid _ c),
+      ← le-grid _ _ a c,
       k .before .before .if1 .left,
-      ← le-whole (on-grid _ a) (on-grid _ d),
+      ← le-grid _ _ a d,
       k .before .if2 .left,
-      ← le-whole (on-grid _ b) (on-grid _ c),
+      ← le-grid _ _ b c,
       k .if3 .taken,
     )
 
 returns-4 : tie.Need-returns-4
 returns-4 k a b c d =
     rw (
-      ← le-whole (on-grid _ a) (on-grid _ c),
+      ← le-grid _ _ a c,
       k .before .before .if1 .left,
-      ← le-whole (on-grid _ a) (on-grid _ d),
+      ← le-grid _ _ a d,
       k .before .if2 .left,
-      ← le-whole (on-grid _ b) (on-grid _ c),
+      ← le-grid _ _ b c,
       k .if3 .left,
-      ← le-whole (on-grid _ b) (on-grid _ d),
+      ← le-grid _ _ b d,
     )
 
 pub reaches-spec : {M : Type 1} → statement M

@@ -16,12 +16,6 @@ abbrev μ-loop : tie.MeasureT-loop
 loop-holds : tie.Need-loop-holds Inv-loop μ-loop
 loop-holds c = linking-start (c .before .before .pre .2)
 
-mul-hi : tie.Need-mul-hi Inv-loop μ-loop
-mul-hi c = search needs
-
-shared-slice-read-hi : tie.Need-shared-slice-read-hi Inv-loop μ-loop
-shared-slice-read-hi c = search needs
-
 cast-hi : tie.Need-cast-hi Inv-loop μ-loop
 cast-hi c = omega (arith, c .shared-slice-known2 .given (c .before .before .loop .k))
 
@@ -32,12 +26,6 @@ link-requires c κs =
     let s = l .loop .inv in
     let z = l .before .before .before .pre in
     (omega (arith, z .0, s .size), z .1, next-from (s .table) (i .loop-test .taken), next-to (s .table) (i .loop-test .taken))
-
-add-k : tie.Need-add-k Inv-loop μ-loop
-add-k c = search needs
-
-loop-less : tie.Need-loop-less Inv-loop μ-loop
-loop-less c = search needs
 
 loop-again : tie.Need-loop-again Inv-loop μ-loop
 loop-again c =
@@ -54,16 +42,5 @@ returns c = linking-end (c .before .loop .inv) (c .loop-test .left)
 pub link-rings-spec : {M : Type 1} → statement M
 link-rings-spec =
     tie.close
-    (tie.spec
-    Inv-loop
-    μ-loop
-    loop-holds
-    mul-hi
-    shared-slice-read-hi
-    cast-hi
-    link-requires
-    add-k
-    loop-less
-    loop-again
-    same-length
+    (tie.spec Inv-loop μ-loop loop-holds (λ c. search needs) (λ c. search needs) cast-hi link-requires (λ c. search needs) (λ c. search needs) loop-again same-length
     returns)

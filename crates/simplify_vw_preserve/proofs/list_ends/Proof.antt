@@ -17,12 +17,6 @@ abbrev μ-loop : tie.MeasureT-loop
 loop-holds : tie.Need-loop-holds Inv-loop μ-loop
 loop-holds c = ending-start (c .before .before .before .pre .2)
 
-mul-count-below : tie.Need-mul-count-below Inv-loop μ-loop
-mul-count-below c = search needs
-
-shared-slice-read-count-below : tie.Need-shared-slice-read-count-below Inv-loop μ-loop
-shared-slice-read-count-below c = search needs
-
 cast-count-below : tie.Need-cast-count-below Inv-loop μ-loop
 cast-count-below c = omega (arith, c .shared-slice-known3 .given (c .before .before .loop .k))
 
@@ -44,12 +38,6 @@ mul-ends c = let i = c .before .before in let l = i .before in omega (arith, i .
 slice-write-ends : tie.Need-slice-write-ends Inv-loop μ-loop
 slice-write-ends c = let i = c .before .before in let l = i .before in omega (arith, i .loop-test .taken, l .loop .inv .size, l .before .before .before .before .pre .3)
 
-add-k : tie.Need-add-k Inv-loop μ-loop
-add-k c = search needs
-
-loop-less : tie.Need-loop-less Inv-loop μ-loop
-loop-less c = search needs
-
 loop-again : tie.Need-loop-again Inv-loop μ-loop
 loop-again c =
     let i = c .before .before in
@@ -65,19 +53,5 @@ returns c = ending-end (c .before .loop .inv) (c .loop-test .left)
 pub list-ends-spec : {M : Type 1} → statement M
 list-ends-spec =
     tie.close
-    (tie.spec
-    Inv-loop
-    μ-loop
-    loop-holds
-    mul-count-below
-    shared-slice-read-count-below
-    cast-count-below
-    count-below-requires
-    cast-ends
-    mul-ends
-    slice-write-ends
-    add-k
-    loop-less
-    loop-again
-    same-length
-    returns)
+    (tie.spec Inv-loop μ-loop loop-holds (λ c. search needs) (λ c. search needs) cast-count-below count-below-requires cast-ends mul-ends slice-write-ends
+    (λ c. search needs) (λ c. search needs) loop-again same-length returns)

@@ -1,55 +1,67 @@
--- `simplify_vw_preserve::vwp_wrapper` meets its contract. Assumes nothing.
+-- `simplify_vw_preserve::vwp_wrapper` meets its contract. The invariant: so many rings are thinned. Assumes nothing.
 use mathlib.Core.Path.{sym, _∙_}
+use Prim.Native.Nat.{_-_}
+use native.Mathlib.Omega.{arith}
+use lib.ListN.{length}
 use borrow.Author.Needs.{needs}
 use borrow.Author.Tests.{not-true, not-false}
-use Rattle.simplify_vw_preserve.proofs.Thinning.{wrapped-whole, wrapped-thinned}
+use Rattle.thin.proofs.Removing.{room-as}
+use Rattle.simplify_vw_preserve.specs.Calls.{minima}
+use Rattle.simplify_vw_preserve.proofs.Thinning.{Thinning, next-from, next-to, wrapped-whole, thinning-start, thinning-more, thinning-end}
 use Rattle.simplify_vw_preserve.proofs.vwp_wrapper.Statement.{statement}
 use Rattle.simplify_vw_preserve.proofs.vwp_wrapper.Tie as tie
 
-link-rings-requires : tie.Need-link-rings-requires
-link-rings-requires c κs = search needs
+abbrev Inv-loop : tie.InvT-loop
+Inv-loop x y rings floats₀ words₀ m first second tolerance lo₀ k₀ floats words lo k =
+    Thinning x y floats₀ words₀ m rings (minima first second) tolerance floats words lo k
 
-tolerance-positive-requires : tie.Need-tolerance-positive-requires
-tolerance-positive-requires c κs = search needs
+abbrev μ-loop : tie.MeasureT-loop
+μ-loop x y rings floats₀ words₀ m first second tolerance lo₀ k₀ floats words lo k = length rings - k
 
-same-length : tie.Need-same-length
-same-length c = search needs
+module _ (p : tie.After-tolerance-positive Inv-loop μ-loop) where
+  abbrev linked : tie.After-link-rings Inv-loop μ-loop
+  linked = p .before .before .before
 
-returns : tie.Need-returns
+  abbrev start : tie.Start Inv-loop μ-loop
+  start = linked .before .before .before .before .before .before .before
+
+returns : tie.Need-returns Inv-loop μ-loop
 returns c =
     let p = c .before in
-    let l = p .before .before .before in
-    let z = l .before .before .before .before .before .before .before .pre in
-    wrapped-whole (z .1) (l .link-rings .ensures) (sym (p .tolerance-positive .ensures) ∙ not-true (p .tolerance-positive .result) (c .if1 .taken))
+    wrapped-whole (start p .pre .1) (linked p .link-rings .ensures)
+    (sym (p .tolerance-positive .ensures) ∙ not-true (p .tolerance-positive .result) (c .if1 .taken))
 
-thin-rings-requires : tie.Need-thin-rings-requires
-thin-rings-requires c κs = search needs
+loop-holds : tie.Need-loop-holds Inv-loop μ-loop
+loop-holds c = thinning-start (start (c .before) .pre .3)
 
-same-length-2 : tie.Need-same-length-2
-same-length-2 c = search needs
+cast-hi : tie.Need-cast-hi Inv-loop μ-loop
+cast-hi c = omega (arith, c .shared-slice-known4 .given (c .before .before .loop .k))
 
-same-length-3 : tie.Need-same-length-3
-same-length-3 c = search needs
+visvalingam-preserve-requires : tie.Need-visvalingam-preserve-requires Inv-loop μ-loop
+visvalingam-preserve-requires c κs =
+    let i = c .before .before .before in
+    let s = i .before .loop .inv in
+    let p = i .before .before .before in
+    let z = start p .pre in
+    (z .0, room-as (s .floats) (s .words ∙ linked p .link-rings .kept .0) (z .1), z .2, next-from (s .table) (i .loop-test .taken), next-to (s .table) (i .loop-test .taken))
 
-returns-2 : tie.Need-returns-2
+loop-again : tie.Need-loop-again Inv-loop μ-loop
+loop-again c =
+    let v = c .before .before .before .before in
+    let i = v .before .before .before .before in
+    thinning-more (i .before .loop .inv) (i .loop-test .taken) (v .visvalingam-preserve .ensures) (v .visvalingam-preserve .kept .1 .1 .0)
+    (v .visvalingam-preserve .kept .1 .1 .1 .0)
+
+returns-2 : tie.Need-returns-2 Inv-loop μ-loop
 returns-2 c =
-    let t = c .before .before .before .before in
-    let e = t .before .before .before in
+    let l = c .before in
+    let e = l .before in
     let p = e .before in
-    let l = p .before .before .before in
-    let z = l .before .before .before .before .before .before .before .pre in
-    wrapped-thinned (z .1) (l .link-rings .ensures) (sym (p .tolerance-positive .ensures) ∙ not-false (p .tolerance-positive .result) (e .if1 .left))
-    (t .thin-rings .ensures)
+    thinning-end (l .loop .inv) (c .loop-test .left) (sym (p .tolerance-positive .ensures) ∙ not-false (p .tolerance-positive .result) (e .if1 .left))
+    (start p .pre .1) (linked p .link-rings .ensures)
 
 pub vwp-wrapper-spec : {M : Type 1} → statement M
 vwp-wrapper-spec =
     tie.close
-    (tie.spec
-    link-rings-requires
-    tolerance-positive-requires
-    same-length
-    returns
-    thin-rings-requires
-    same-length-2
-    same-length-3
-    returns-2)
+    (tie.spec Inv-loop μ-loop (λ c κs. search needs) (λ c κs. search needs) (λ c. search needs) returns loop-holds (λ c. search needs) (λ c. search needs) cast-hi
+    visvalingam-preserve-requires (λ c. search needs) (λ c. search needs) loop-again (λ c. search needs) (λ c. search needs) returns-2)

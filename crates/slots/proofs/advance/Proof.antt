@@ -48,20 +48,11 @@ module _ (c : tie.After-pick) where
   level-words : length (c .pick .last .1 .0) ≡ slotWords
   level-words = c .pick .kept .1 .0 ∙ start .pre .1
 
-slice-read-n : tie.Need-slice-read-n
-slice-read-n c = search needs
-
 cast-n : tie.Need-cast-n
 cast-n c = omega (arith, c .slice-known3 .given 1)
 
-slice-read-len : tie.Need-slice-read-len
-slice-read-len c = search needs
-
 cast-len : tie.Need-cast-len
 cast-len c = omega (arith, c .slice-known4 .given 2)
-
-slot-requires : tie.Need-slot-requires
-slot-requires c κs = search needs
 
 returns : tie.Need-returns
 returns c = no-line _ (λ ps t ks h. omega (arith, h .number, h .few, c .if1 .taken))
@@ -87,20 +78,11 @@ pick-requires c κs =
     let z = m .before .before .before .before .before .pre in
     (slot-room (m .slot .result) (getD (ws m) 1 0) (m .slot .ensures) (e .before .before .if1 .left) (ws m) (z .1) (fs m) (z .0), e .if2 .left)
 
-enum-known-got : tie.Need-enum-known-got
-enum-known-got c = search needs
-
 cast-words : tie.Need-cast-words
 cast-words c =
     let g = c .before in
     let p = g .before .before .before .before .before .before in
     omega (arith, picked-as (g .got .given .1) (p .pick .ensures) .picked .0, tested p .if2 .left, capacity-is (made p))
-
-slice-write-words : tie.Need-slice-write-words
-slice-write-words c = search needs
-
-enum-known-got-2 : tie.Need-enum-known-got-2
-enum-known-got-2 c = search needs
 
 remove-requires : tie.Need-remove-requires
 remove-requires c κs =
@@ -126,21 +108,12 @@ slice-write-words-2 c =
     let p = r .before .before .before .before .before .before .before .before .before .before in
     omega (arith, r .remove .kept .1 .0, level-words p)
 
-same-length : tie.Need-same-length
-same-length c = search needs
-
-same-length-2 : tie.Need-same-length-2
-same-length-2 c = search needs
-
 returns-3 : tie.Need-returns-3
 returns-3 c =
     let g = c .before in
     let p = g .before .before .before .before .before .before in
     part-finished (fs (made p)) (ws (made p)) (start p .pre .0) (start p .pre .1) (made p .slot .result) (made p .slot .ensures) (few p) (tested p .if2 .left)
     _ _ (p .pick .kept .0) (p .pick .kept .1 .0) _ (picked-as (g .got .given .1) (p .pick .ensures))
-
-same-length-3 : tie.Need-same-length-3
-same-length-3 c = search needs
 
 same-length-4 : tie.Need-same-length-4
 same-length-4 c =
@@ -160,5 +133,5 @@ returns-4 c =
 pub advance-spec : {M : Type 1} → statement M
 advance-spec =
     tie.close
-    (tie.spec slice-read-n cast-n slice-read-len cast-len slot-requires returns returns-2 sub-t mul-tolerance slice-read-tolerance pick-requires enum-known-got cast-words
-    slice-write-words enum-known-got-2 remove-requires cast-words-2 slice-write-words-2 same-length same-length-2 returns-3 same-length-3 same-length-4 returns-4)
+    (tie.spec (λ c. search needs) cast-n (λ c. search needs) cast-len (λ c κs. search needs) returns returns-2 sub-t mul-tolerance slice-read-tolerance pick-requires (λ c. search needs) cast-words
+    (λ c. search needs) (λ c. search needs) remove-requires cast-words-2 slice-write-words-2 (λ c. search needs) (λ c. search needs) returns-3 (λ c. search needs) same-length-4 returns-4)

@@ -21,15 +21,6 @@ module _ (c : tie.After-area-short) where
 enough : (c : tie.Else1) → Long (given (c .before))
 enough c = long (given (c .before)) (sym (c .before .area-short .ensures) ∙ c .if1 .left)
 
-area-short-requires : tie.Need-area-short-requires
-area-short-requires c κs = search needs
-
-same-length : tie.Need-same-length
-same-length c = search needs
-
-same-length-2 : tie.Need-same-length-2
-same-length-2 c = search needs
-
 returns : tie.Need-returns
 returns c = call-refused 7 (reason (c .before) true (c .if1 .taken)) refl refl
 
@@ -38,12 +29,6 @@ zero-floats-requires c κs = omega (arith, enough (c .before) .floats)
 
 zero-words-requires : tie.Need-zero-words-requires
 zero-words-requires c κs = omega (arith, enough (c .before .before .before .before .before) .words)
-
-same-length-3 : tie.Need-same-length-3
-same-length-3 c = search needs
-
-same-length-4 : tie.Need-same-length-4
-same-length-4 c = search needs
 
 returns-2 : tie.Need-returns-2
 unfolding zeroed
@@ -56,4 +41,4 @@ returns-2 c =
 pub clear-spec : {M : Type 1} → statement M
 clear-spec =
     tie.close
-    (tie.spec area-short-requires same-length same-length-2 returns zero-floats-requires zero-words-requires same-length-3 same-length-4 returns-2)
+    (tie.spec (λ c κs. search needs) (λ c. search needs) (λ c. search needs) returns zero-floats-requires zero-words-requires (λ c. search needs) (λ c. search needs) returns-2)

@@ -75,9 +75,6 @@ module _ (c : tie.After-seed) where
   seeded-words : length (c .seed .last .1 .1 .1 .0) ≡ slotWords
   seeded-words = c .seed .kept .1 .1 .1 .0 ∙ linked third
 
-slot-requires : tie.Need-slot-requires
-slot-requires c κs = search needs
-
 sub-t : tie.Need-sub-t
 sub-t c = omega (arith, x-is (c .before))
 
@@ -118,9 +115,6 @@ seed-requires c κs =
       omega (arith, points-are m),
     )
 
-slice-write-words : tie.Need-slice-write-words
-slice-write-words c = search needs
-
 cast-words : tie.Need-cast-words
 cast-words c = omega (arith, fine (layout (third (c .before .before .before .before))) .few)
 
@@ -160,5 +154,5 @@ returns c =
 pub fill-spec : {M : Type 1} → statement M
 fill-spec =
     tie.close
-    (tie.spec slot-requires sub-t mul-floats slice-write-floats copy-requires copy-requires-2 link-requires seed-requires slice-write-words cast-words slice-write-words-2
+    (tie.spec (λ c κs. search needs) sub-t mul-floats slice-write-floats copy-requires copy-requires-2 link-requires seed-requires (λ c. search needs) cast-words slice-write-words-2
     cast-words-2 slice-write-words-3 same-length same-length-2 returns)

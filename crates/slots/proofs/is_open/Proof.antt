@@ -12,15 +12,6 @@ use Rattle.rule.proofs.Parts.{piece-at}
 use Rattle.slots.proofs.is_open.Statement.{statement}
 use Rattle.slots.proofs.is_open.Tie as tie
 
-new-requires : tie.Need-new-requires
-new-requires c κs = search needs
-
-mul-result : tie.Need-mul-result
-mul-result c = search needs
-
-shared-slice-read-result : tie.Need-shared-slice-read-result
-shared-slice-read-result c = search needs
-
 returns : tie.Need-returns
 unfolding isOpen
 returns c =
@@ -30,4 +21,4 @@ returns c =
     (ap (λ (i : ℕ). getD ws i 0) (omega (arith, c .before .new .ensures .1)) ∙ sym (piece-at slotWords (start .args .slot .0) ws 0 0 (omega arith)))
 
 pub is-open-spec : {M : Type 1} → statement M
-is-open-spec = tie.close (tie.spec new-requires mul-result shared-slice-read-result returns)
+is-open-spec = tie.close (tie.spec (λ c κs. search needs) (λ c. search needs) (λ c. search needs) returns)

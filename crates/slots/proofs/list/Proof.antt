@@ -60,23 +60,14 @@ module _ (c : tie.After-list-kept) where
       (counted .before .slot .ensures)
       (c .list-kept .ensures)) room
 
-shared-slice-read-n : tie.Need-shared-slice-read-n
-shared-slice-read-n c = search needs
-
 cast-n : tie.Need-cast-n
 cast-n c = omega (arith, c .shared-slice-known2 .given 1)
 
 returns : tie.Need-returns
 returns c = no-points _ _ (c .if1 .taken)
 
-slot-requires : tie.Need-slot-requires
-slot-requires c κs = search needs
-
 count-kept-requires : tie.Need-count-kept-requires
 count-kept-requires c κs = has-links c
-
-output-short-requires : tie.Need-output-short-requires
-output-short-requires c κs = search needs
 
 returns-2 : tie.Need-returns-2
 returns-2 c =
@@ -92,13 +83,10 @@ cast-t8 c =
     let a = c .before .before in
     omega (arith, written a .0, left-few (counted a), counted a .before .before .if1 .left)
 
-same-length : tie.Need-same-length
-same-length c = search needs
-
 returns-3 : tie.Need-returns-3
 returns-3 c = let a = c .before .before in listed (held (counted a .before)) (out (counted a)) _ _ (room a) (written a .0) (written a .1)
 
 pub list-spec : {M : Type 1} → statement M
 list-spec =
     tie.close
-    (tie.spec shared-slice-read-n cast-n returns slot-requires count-kept-requires output-short-requires returns-2 list-kept-requires cast-t8 same-length returns-3)
+    (tie.spec (λ c. search needs) cast-n returns (λ c κs. search needs) count-kept-requires (λ c κs. search needs) returns-2 list-kept-requires cast-t8 (λ c. search needs) returns-3)

@@ -24,12 +24,6 @@ module _ (c : tie.After-enum-told) where
 opened : (c : tie.After-is-open) (b : Bool) → c .is-open .result ≡ b → isOpen (part (number (c .before)) (given (c .before))) ≡ b
 opened c b e = open-words (number (c .before)) (given (c .before) .floats) (given (c .before) .words) ∙ sym (c .is-open .ensures) ∙ e
 
-place-reason-requires : tie.Need-place-reason-requires
-place-reason-requires c κs = search needs
-
-enum-known-reason : tie.Need-enum-known-reason
-enum-known-reason c = search needs
-
 returns : tie.Need-returns
 unfolding openReason
 returns c =
@@ -39,9 +33,6 @@ returns c =
     (c .before .reason .given .0 .0)
     (sym (ap ofOutcome (c .before .reason .given .1)) ∙ c .before .before .before .place-reason .ensures)
 
-enum-told : tie.Need-enum-told
-enum-told c = search needs
-
 is-open-requires : tie.Need-is-open-requires
 is-open-requires c κs = (below (place c), long-enough (place c) .words)
 
@@ -49,13 +40,10 @@ returns-2 : tie.Need-returns-2
 unfolding openReason
 returns-2 c = let o = c .before in rw (place (o .before) .enough, place (o .before) .there, opened o true (c .if1 .taken))
 
-line-reason-requires : tie.Need-line-reason-requires
-line-reason-requires c κs = search needs
-
 returns-3 : tie.Need-returns-3
 unfolding openReason
 returns-3 c = let o = c .before .before in rw (place (o .before) .enough, place (o .before) .there, opened o false (c .before .if1 .left)) (c .line-reason .ensures)
 
 pub open-reason-spec : {M : Type 1} → statement M
 open-reason-spec =
-    tie.close (tie.spec place-reason-requires enum-known-reason returns enum-told is-open-requires returns-2 line-reason-requires returns-3)
+    tie.close (tie.spec (λ c κs. search needs) (λ c. search needs) returns (λ c. search needs) is-open-requires returns-2 (λ c κs. search needs) returns-3)

@@ -11,14 +11,8 @@ short : (c : tie.After-area-short) (b : Bool) → c .area-short .result ≡ b
     → areaShort (area (c .before .before .before .args .floats .now) (c .before .before .before .args .words .now)) .applies ≡ b
 short c b e = sym (c .area-short .ensures) ∙ e
 
-area-short-requires : tie.Need-area-short-requires
-area-short-requires c κs = search needs
-
 returns : tie.Need-returns
 returns c = rw (short (c .before) true (c .if1 .taken))
-
-no-such-slot-requires : tie.Need-no-such-slot-requires
-no-such-slot-requires c κs = search needs
 
 returns-2 : tie.Need-returns-2
 returns-2 c = let n = c .before in rw (short (n .before .before) false (n .before .if1 .left), sym (n .no-such-slot .ensures) ∙ c .if2 .taken)
@@ -27,4 +21,4 @@ returns-3 : tie.Need-returns-3
 returns-3 c = let n = c .before in rw (short (n .before .before) false (n .before .if1 .left), sym (n .no-such-slot .ensures) ∙ c .if2 .left)
 
 pub place-reason-spec : {M : Type 1} → statement M
-place-reason-spec = tie.close (tie.spec area-short-requires returns no-such-slot-requires returns-2 returns-3)
+place-reason-spec = tie.close (tie.spec (λ c κs. search needs) returns (λ c κs. search needs) returns-2 returns-3)

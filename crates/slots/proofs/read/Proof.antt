@@ -28,12 +28,6 @@ module _ (c : tie.After-enum-told) where
   opened : Opened number given
   opened = slot-opened number given no-reason
 
-slot-reason-requires : tie.Need-slot-reason-requires
-slot-reason-requires c κs = search needs
-
-enum-known-reason : tie.Need-enum-known-reason
-enum-known-reason c = search needs
-
 returns : tie.Need-returns
 returns c =
     let tested = c .before .before .before in
@@ -41,34 +35,10 @@ returns c =
     read-refused (a .slot .0) (area (a .floats .now) (a .words .now)) (c .before .reason .given .0 .0)
     (sym (ap ofOutcome (c .before .reason .given .1)) ∙ tested .slot-reason .ensures) (a .out .now)
 
-enum-told : tie.Need-enum-told
-enum-told c = search needs
-
-new-requires : tie.Need-new-requires
-new-requires c κs = search needs
-
-add-d : tie.Need-add-d
-add-d c = search needs
-
-mul-list : tie.Need-mul-list
-mul-list c = search needs
-
-sub-list : tie.Need-sub-list
-sub-list c = search needs
-
-part-list-start : tie.Need-part-list-start
-part-list-start c = search needs
-
 part-list-end : tie.Need-part-list-end
 part-list-end c =
     let o = opened (c .before) .place in
     omega (arith, below o, long-enough o .words, c .new .ensures .1)
-
-list-requires : tie.Need-list-requires
-list-requires c κs = search needs
-
-same-length : tie.Need-same-length
-same-length c = search needs
 
 returns-2 : tie.Need-returns-2
 returns-2 c =
@@ -85,5 +55,5 @@ returns-2 c =
 pub read-spec : {M : Type 1} → statement M
 read-spec =
     tie.close
-    (tie.spec slot-reason-requires enum-known-reason returns enum-told new-requires add-d mul-list sub-list part-list-start part-list-end list-requires same-length
-    returns-2)
+    (tie.spec (λ c κs. search needs) (λ c. search needs) returns (λ c. search needs) (λ c κs. search needs) (λ c. search needs) (λ c. search needs)
+    (λ c. search needs) (λ c. search needs) part-list-end (λ c κs. search needs) (λ c. search needs) returns-2)

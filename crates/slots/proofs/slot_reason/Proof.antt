@@ -26,12 +26,6 @@ module _ (c : tie.After-enum-told) where
 opened : (c : tie.After-is-open) (b : Bool) → c .is-open .result ≡ b → isOpen (part (number (c .before)) (given (c .before))) ≡ b
 opened c b e = open-words (number (c .before)) (given (c .before) .floats) (given (c .before) .words) ∙ sym (c .is-open .ensures) ∙ e
 
-place-reason-requires : tie.Need-place-reason-requires
-place-reason-requires c κs = search needs
-
-enum-known-reason : tie.Need-enum-known-reason
-enum-known-reason c = search needs
-
 returns : tie.Need-returns
 unfolding slotReason
 returns c =
@@ -39,9 +33,6 @@ returns c =
     no-slot (a .slot .0) (area (a .floats .now) (a .words .now)) none (slotNotOpen (a .slot .0) (area (a .floats .now) (a .words .now)) ∷ [])
     (c .before .reason .given .0 .0)
     (sym (ap ofOutcome (c .before .reason .given .1)) ∙ c .before .before .before .place-reason .ensures)
-
-enum-told : tie.Need-enum-told
-enum-told c = search needs
 
 is-open-requires : tie.Need-is-open-requires
 is-open-requires c κs = (below (place c), long-enough (place c) .words)
@@ -59,4 +50,4 @@ returns-3 c =
     rw (place (o .before) .enough, place (o .before) .there, opened o true (not-false (o .is-open .result) (c .if1 .left)))
 
 pub slot-reason-spec : {M : Type 1} → statement M
-slot-reason-spec = tie.close (tie.spec place-reason-requires enum-known-reason returns enum-told is-open-requires returns-2 returns-3)
+slot-reason-spec = tie.close (tie.spec (λ c κs. search needs) (λ c. search needs) returns (λ c. search needs) is-open-requires returns-2 returns-3)

@@ -8,15 +8,6 @@ use Rattle.thin.proofs.demoted_if.Tie as tie
 returns : tie.Need-returns
 returns c = let a = c .before .args in demoted-not (a .demote) (a .tolerance) (a .scored) (not-true _ (c .if1 .taken))
 
-enum-told : tie.Need-enum-told
-enum-told c = search needs
-
-enum-known-scored : tie.Need-enum-known-scored
-enum-known-scored c = search needs
-
-demoted-requires : tie.Need-demoted-requires
-demoted-requires c κs = search needs
-
 returns-2 : tie.Need-returns-2
 returns-2 c =
     let a = c .before .before .before .args in
@@ -30,4 +21,4 @@ returns-3 c =
 
 pub demoted-if-spec : {M : Type 1} → statement M
 demoted-if-spec =
-    tie.close (tie.spec returns enum-told enum-known-scored demoted-requires returns-2 returns-3)
+    tie.close (tie.spec returns (λ c. search needs) (λ c. search needs) (λ c κs. search needs) returns-2 returns-3)

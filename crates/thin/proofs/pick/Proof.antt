@@ -21,74 +21,60 @@ load-requires c κs = let l = c .before .before in pick-holds (l .before .loop .
 live-requires : tie.Need-live-requires Inv-loop μ-loop
 live-requires c κs = pick-links (c .before .before .before .before .before .loop .inv)
 
-above-requires : tie.Need-above-requires Inv-loop μ-loop
-above-requires c κs = search needs
+-- the turn that tested the root
+abbrev turn : tie.After-above Inv-loop μ-loop → tie.In-loop Inv-loop μ-loop
+turn c = c .before .before .before .before .before .before
 
 same-length : tie.Need-same-length Inv-loop μ-loop
-same-length c = c .before .before .before .before .before .before .before .before .before .loop .inv .floats
+same-length c = turn (c .before) .before .loop .inv .floats
 
 same-length-2 : tie.Need-same-length-2 Inv-loop μ-loop
-same-length-2 c = c .before .before .before .before .before .before .before .before .before .loop .inv .words
+same-length-2 c = turn (c .before) .before .loop .inv .words
 
 returns : tie.Need-returns Inv-loop μ-loop
 returns c =
-    let v = c .before .before .before in
-    let l = v .before .before .before .before .before in
-    pick-above (l .before .loop .inv) (l .loop-test .taken) (v .before .before .load .ensures) (v .live .ensures)
-    (c .before .before .if1 .taken) _ (c .before .above .ensures) (c .if2 .taken)
+    let a = c .before in
+    let l = turn a in
+    pick-above (l .before .loop .inv) (l .loop-test .taken) (a .before .before .before .load .ensures) (a .before .live .ensures) _ (a .above .ensures) (c .if1 .taken)
 
 sub-pop : tie.Need-sub-pop Inv-loop μ-loop
-sub-pop c = omega (arith, c .before .before .before .before .before .before .before .before .before .before .loop-test .taken)
+sub-pop c = omega (arith, turn (c .before .before .before) .loop-test .taken)
 
 pop-requires : tie.Need-pop-requires Inv-loop μ-loop
-pop-requires c κs =
-    let l = c .before .before .before .before .before .before .before .before .before .before in
-    pick-holds (l .before .loop .inv) _ (omega (arith, l .loop-test .taken))
+pop-requires c κs = let l = turn (c .before .before .before) in pick-holds (l .before .loop .inv) _ (omega (arith, l .loop-test .taken))
 
-sub-t22 : tie.Need-sub-t22 Inv-loop μ-loop
-sub-t22 c = omega (arith, c .before .before .before .before .before .before .before .before .before .before .before .before .before .before .before .loop-test .taken)
+sub-k : tie.Need-sub-k Inv-loop μ-loop
+sub-k c = omega (arith, turn (c .before .before .before .before .before .before .before .before) .loop-test .taken)
 
 same-length-3 : tie.Need-same-length-3 Inv-loop μ-loop
 same-length-3 c =
-    let p = c .before .before .before .before in
-    omega (arith, p .pop .kept .0, p .before .before .before .before .before .before .before .before .before .before .before .before .loop .inv .floats)
+    let p = c .before .before .before .before .before in
+    omega (arith, p .pop .kept .0, turn (p .before .before .before .before) .before .loop .inv .floats)
 
 same-length-4 : tie.Need-same-length-4 Inv-loop μ-loop
 same-length-4 c =
-    let p = c .before .before .before .before in
-    omega (arith, p .pop .kept .1 .0, p .before .before .before .before .before .before .before .before .before .before .before .before .loop .inv .words)
+    let p = c .before .before .before .before .before in
+    omega (arith, p .pop .kept .1 .0, turn (p .before .before .before .before) .before .loop .inv .words)
 
 returns-2 : tie.Need-returns-2 Inv-loop μ-loop
 returns-2 c =
-    let p = c .before .before .before .before in
-    let d = p .before .before .before in
-    let v = d .before .before .before in
-    let l = v .before .before .before .before .before in
-    pick-found (l .before .loop .inv) (l .loop-test .taken) (v .before .before .load .ensures) (v .live .ensures)
-    (d .before .before .if1 .taken) _ (d .before .above .ensures) (d .if2 .left) (p .pop .ensures)
-
-sub-pop-2 : tie.Need-sub-pop-2 Inv-loop μ-loop
-sub-pop-2 c = omega (arith, c .before .before .before .before .before .before .before .before .loop-test .taken)
-
-pop-requires-2 : tie.Need-pop-requires-2 Inv-loop μ-loop
-pop-requires-2 c κs =
-    let l = c .before .before .before .before .before .before .before .before in
-    pick-holds (l .before .loop .inv) _ (omega (arith, l .loop-test .taken))
-
-sub-k : tie.Need-sub-k Inv-loop μ-loop
-sub-k c = omega (arith, c .before .before .before .before .before .before .before .before .before .before .before .before .before .loop-test .taken)
+    let p = c .before .before .before .before .before in
+    let e = p .before .before .before in
+    let a = e .before in
+    let l = turn a in
+    pick-found (l .before .loop .inv) (l .loop-test .taken) (a .before .before .before .load .ensures) (a .before .live .ensures) _ (a .above .ensures)
+    (c .if2 .taken) (e .if1 .left) (p .pop .ensures)
 
 loop-less : tie.Need-loop-less Inv-loop μ-loop
-loop-less c = omega (arith, c .before .before .before .before .before .before .before .before .before .before .before .before .before .loop-test .taken)
+loop-less c = omega (arith, turn (c .before .before .before .before .before .before .before .before .before) .loop-test .taken)
 
 loop-again : tie.Need-loop-again Inv-loop μ-loop
 loop-again c =
-    let p = c .before .before .before .before in
-    let e = p .before .before .before in
-    let v = e .before in
-    let l = v .before .before .before .before .before in
-    pick-turn (l .before .loop .inv) (l .loop-test .taken) (v .before .before .load .ensures) (v .live .ensures)
-    (p .pop2 .ensures) (e .if1 .left) (p .pop2 .kept .0) (p .pop2 .kept .1 .0)
+    let p = c .before .before .before .before .before in
+    let a = p .before .before .before .before in
+    let l = turn a in
+    pick-turn (l .before .loop .inv) (l .loop-test .taken) (a .before .before .before .load .ensures) (a .before .live .ensures)
+    (p .pop .ensures) (c .if2 .left) (p .pop .kept .0) (p .pop .kept .1 .0)
 
 same-length-5 : tie.Need-same-length-5 Inv-loop μ-loop
 same-length-5 c = c .before .loop .inv .floats
@@ -108,19 +94,16 @@ pick-spec =
     loop-holds
     load-requires
     live-requires
-    above-requires
+    (λ c κs. search needs)
     same-length
     same-length-2
     returns
     sub-pop
     pop-requires
-    sub-t22
+    sub-k
     same-length-3
     same-length-4
     returns-2
-    sub-pop-2
-    pop-requires-2
-    sub-k
     loop-less
     loop-again
     same-length-5

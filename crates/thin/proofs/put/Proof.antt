@@ -7,26 +7,8 @@ use Rattle.thin.proofs.put.Tie as tie
 returns : tie.Need-returns
 returns c = put-full _ (c .if1 .taken)
 
-enum-told : tie.Need-enum-told
-enum-told c = search needs
-
-enum-known-scored : tie.Need-enum-known-scored
-enum-known-scored c = search needs
-
-push-requires : tie.Need-push-requires
-push-requires c κs = search needs
-
-add-result : tie.Need-add-result
-add-result c = search needs
-
 returns-2 : tie.Need-returns-2
 returns-2 c = put-missing (c .enum-told .given .1)
-
-same-length : tie.Need-same-length
-same-length c = search needs
-
-same-length-2 : tie.Need-same-length-2
-same-length-2 c = search needs
 
 returns-3 : tie.Need-returns-3
 returns-3 c =
@@ -39,11 +21,11 @@ put-spec =
     tie.close
     (tie.spec
     returns
-    enum-told
-    enum-known-scored
-    push-requires
-    add-result
+    (λ c. search needs)
+    (λ c. search needs)
+    (λ c κs. search needs)
+    (λ c. search needs)
     returns-2
-    same-length
-    same-length-2
+    (λ c. search needs)
+    (λ c. search needs)
     returns-3)

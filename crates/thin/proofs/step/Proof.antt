@@ -6,15 +6,6 @@ use Rattle.thin.proofs.Removing.{room-as}
 use Rattle.thin.proofs.step.Statement.{statement}
 use Rattle.thin.proofs.step.Tie as tie
 
-pick-requires : tie.Need-pick-requires
-pick-requires c κs = search needs
-
-enum-known-got : tie.Need-enum-known-got
-enum-known-got c = search needs
-
-enum-known-got-2 : tie.Need-enum-known-got-2
-enum-known-got-2 c = search needs
-
 remove-requires : tie.Need-remove-requires
 remove-requires c κs =
     let g = c .before .before .before in
@@ -23,24 +14,12 @@ remove-requires c κs =
     let w = picked-as (g .got2 .given .1) (p .pick .ensures) .picked in
     (z .0, room-as (p .pick .kept .0) (p .pick .kept .1 .0) (z .1), omega (arith, w .0, z .2), record { left = w .1 .left; current = w .1 .current; right = w .1 .right })
 
-same-length : tie.Need-same-length
-same-length c = search needs
-
-same-length-2 : tie.Need-same-length-2
-same-length-2 c = search needs
-
 returns : tie.Need-returns
 returns c =
     let g = c .before in
     let p = g .before .before .before .before .before .before in
     let z = p .before .before .before .before .before .before .before .pre in
     step-finished _ _ (z .1) (z .2) (picked-as (g .got .given .1) (p .pick .ensures))
-
-same-length-3 : tie.Need-same-length-3
-same-length-3 c = search needs
-
-same-length-4 : tie.Need-same-length-4
-same-length-4 c = search needs
 
 returns-2 : tie.Need-returns-2
 returns-2 c =
@@ -54,13 +33,13 @@ pub step-spec : {M : Type 1} → statement M
 step-spec =
     tie.close
     (tie.spec
-    pick-requires
-    enum-known-got
-    enum-known-got-2
+    (λ c κs. search needs)
+    (λ c. search needs)
+    (λ c. search needs)
     remove-requires
-    same-length
-    same-length-2
+    (λ c. search needs)
+    (λ c. search needs)
     returns
-    same-length-3
-    same-length-4
+    (λ c. search needs)
+    (λ c. search needs)
     returns-2)

@@ -12,9 +12,10 @@ use Rattle.layout.specs.declared.Layout.{Layout}
 use Rattle.vscore.specs.declared.VScore.{VScore}
 use Rattle.vscore.specs.Score.{sooner}
 use Rattle.vscore.specs.Scale.{Scale, Faithful}
-use Rattle.heap.specs.Order.{parent, upd, tick, count}
+use Rattle.heap.specs.Order.{children, parent, upd, tick, count}
 use Rattle.heap.specs.Memory.{Holds, scoreAt, Framed}
-use Rattle.heap.specs.Heap.{Proper, Le, Heap, AllProper, Among, FirstOf, Popped}
+use Rattle.heap.specs.Heap.{Proper, Le, Heap, AllProper, Among, Popped}
+use Rattle.heap.specs.Children.{FirstOf}
 use Rattle.heap.proofs.Places.{upd-other, upd-by, all-move, count-upd, count-move}
 use Rattle.heap.proofs.Holes.{Hole, Above, Below, rest, down-hole, down-below, first-hole}
 use Rattle.heap.proofs.Scores.{le-trans, sooner-true, sooner-false, among-all}
@@ -75,11 +76,11 @@ module _ {fs : List Float} {ws : List ℕ} {m : Layout} {n : ℕ} {s : VScore} {
   abbrev pub DownStops : Type 0
   DownStops = (σ : Scale) → Faithful σ → AllProper σ (suc n) old → Above (Le σ) n h j s
 
-  pub down-end : n ≤ 2 * j + 1 → DownStops
+  pub down-end : n ≤ children * j + 1 → DownStops
   down-end h σ φ f k p l e = absurd (omega arith)
 
   -- the first of those below j, at i
-  module _ {c i : ℕ} (ce : c ≡ 2 * j + 1) (fo : FirstOf fs′ ws′ m c n i) where
+  module _ {c i : ℕ} (ce : c ≡ children * j + 1) (fo : FirstOf fs′ ws′ m c n i) where
     least : (σ : Scale) → Faithful σ → AllProper σ (suc n) old → Above (Le σ) n h j (h i)
     least σ φ f k p l e = fo .first σ φ (λ x a b. at-proper σ f x b (λ z. omega arith)) k (omega arith) (omega arith) l
 

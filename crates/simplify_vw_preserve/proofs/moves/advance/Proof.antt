@@ -8,33 +8,12 @@ use Rattle.simplify_vw_preserve.proofs.Moving.{stop-nothing, stop-first
 use Rattle.simplify_vw_preserve.proofs.moves.advance.Statement.{statement}
 use Rattle.simplify_vw_preserve.proofs.moves.advance.Tie as tie
 
-pick-requires : tie.Need-pick-requires
-pick-requires c κs = search needs
-
-enum-known-got : tie.Need-enum-known-got
-enum-known-got c = search needs
-
-enum-known-got-2 : tie.Need-enum-known-got-2
-enum-known-got-2 c = search needs
-
-same-length : tie.Need-same-length
-same-length c = search needs
-
-same-length-2 : tie.Need-same-length-2
-same-length-2 c = search needs
-
 returns : tie.Need-returns
 returns c =
     let g = c .before .before in
     let p = g .before .before .before .before .before .before in
     let z = p .before .before .before .before .before .before .before .pre in
     stop-first _ _ _ _ _ _ _ _ _ _ (z .1) (z .2) (picked-as (g .got2 .given .1) (p .pick .ensures)) (c .if1 .taken)
-
-cast-crosses : tie.Need-cast-crosses
-cast-crosses c = search needs
-
-cast-crosses-2 : tie.Need-cast-crosses-2
-cast-crosses-2 c = search needs
 
 crosses-requires : tie.Need-crosses-requires
 crosses-requires c κs =
@@ -43,15 +22,6 @@ crosses-requires c κs =
     let z = p .before .before .before .before .before .before .before .pre in
     let s = picked-as (g .got2 .given .1) (p .pick .ensures) .picked .1 in
     (z .0, omega (arith, z .1 .linked, p .pick .kept .1 .0), s .left, s .right)
-
-barred-requires : tie.Need-barred-requires
-barred-requires c κs = search needs
-
-same-length-3 : tie.Need-same-length-3
-same-length-3 c = search needs
-
-same-length-4 : tie.Need-same-length-4
-same-length-4 c = search needs
 
 returns-2 : tie.Need-returns-2
 returns-2 c =
@@ -75,24 +45,12 @@ remove-requires c κs =
     let s = w .1 in
     (z .0, room-as (p .pick .kept .0) (p .pick .kept .1 .0) (z .1), omega (arith, w .0, z .2), record { left = s .left; current = s .current; right = s .right })
 
-same-length-5 : tie.Need-same-length-5
-same-length-5 c = search needs
-
-same-length-6 : tie.Need-same-length-6
-same-length-6 c = search needs
-
 returns-3 : tie.Need-returns-3
 returns-3 c =
     let g = c .before in
     let p = g .before .before .before .before .before .before in
     let z = p .before .before .before .before .before .before .before .pre in
     stop-nothing _ _ _ _ _ _ _ _ _ _ (z .1) (z .2) (picked-as (g .got .given .1) (p .pick .ensures))
-
-same-length-7 : tie.Need-same-length-7
-same-length-7 c = search needs
-
-same-length-8 : tie.Need-same-length-8
-same-length-8 c = search needs
 
 returns-4 : tie.Need-returns-4
 returns-4 c =
@@ -112,24 +70,6 @@ returns-4 c =
 pub advance-spec : {M : Type 1} → statement M
 advance-spec =
     tie.close
-    (tie.spec
-    pick-requires
-    enum-known-got
-    enum-known-got-2
-    same-length
-    same-length-2
-    returns
-    cast-crosses
-    cast-crosses-2
-    crosses-requires
-    barred-requires
-    same-length-3
-    same-length-4
-    returns-2
-    remove-requires
-    same-length-5
-    same-length-6
-    returns-3
-    same-length-7
-    same-length-8
-    returns-4)
+    (tie.spec (λ c κs. search needs) (λ c. search needs) (λ c. search needs) (λ c. search needs) (λ c. search needs) returns (λ c. search needs) (λ c. search needs)
+    crosses-requires (λ c κs. search needs) (λ c. search needs) (λ c. search needs) returns-2 remove-requires (λ c. search needs) (λ c. search needs) returns-3
+    (λ c. search needs) (λ c. search needs) returns-4)

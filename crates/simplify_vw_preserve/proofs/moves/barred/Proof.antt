@@ -6,8 +6,5 @@ use Rattle.simplify_vw_preserve.proofs.moves.barred.Tie as tie
 returns : tie.Need-returns
 returns c = rw (c .if1 .taken)
 
-returns-2 : tie.Need-returns-2
-returns-2 c = search needs
-
 pub barred-spec : {M : Type 1} → statement M
-barred-spec = tie.close (tie.spec returns returns-2)
+barred-spec = tie.close (tie.spec returns (λ c. search needs))

@@ -24,9 +24,6 @@ advance-requires c κs =
     let z = l .before .before .before .before .before .pre in
     (z .0, room-as (s .floats) (s .words) (z .1), s .few)
 
-enum-told : tie.Need-enum-told Inv-loop μ-loop
-enum-told c = search needs
-
 same-length : tie.Need-same-length Inv-loop μ-loop
 same-length c =
     let a = c .before .before .before .before .before .before in
@@ -41,9 +38,6 @@ returns : tie.Need-returns Inv-loop μ-loop
 returns c =
     let a = c .before .before .before .before .before .before in
     run-stop (a .before .before .before .before .loop .inv) (moved-as (c .enum-told .given .1) (a .advance .ensures))
-
-enum-known-got : tie.Need-enum-known-got Inv-loop μ-loop
-enum-known-got c = search needs
 
 sub-kept : tie.Need-sub-kept Inv-loop μ-loop
 sub-kept c = let a = c .before .before .before .before .before .before .before in omega (arith, a .before .before .before .loop-test .taken)
@@ -69,19 +63,5 @@ returns-2 c = run-none (c .before .loop .inv) (c .loop-test .left)
 pub run-spec : {M : Type 1} → statement M
 run-spec =
     tie.close
-    (tie.spec
-    Inv-loop
-    μ-loop
-    loop-holds
-    advance-requires
-    enum-told
-    same-length
-    same-length-2
-    returns
-    enum-known-got
-    sub-kept
-    loop-less
-    loop-again
-    same-length-3
-    same-length-4
-    returns-2)
+    (tie.spec Inv-loop μ-loop loop-holds advance-requires (λ c. search needs) same-length same-length-2 returns (λ c. search needs) sub-kept loop-less loop-again
+    same-length-3 same-length-4 returns-2)

@@ -18,12 +18,6 @@ abbrev μ-loop : tie.MeasureT-loop
 loop-holds : tie.Need-loop-holds Inv-loop μ-loop
 loop-holds c = closing-start (c .before .before .before .pre .1)
 
-mul-hi : tie.Need-mul-hi Inv-loop μ-loop
-mul-hi c = search needs
-
-shared-slice-read-hi : tie.Need-shared-slice-read-hi Inv-loop μ-loop
-shared-slice-read-hi c = search needs
-
 cast-hi : tie.Need-cast-hi Inv-loop μ-loop
 cast-hi c = omega (arith, c .shared-slice-known4 .given (c .before .before .loop .k))
 
@@ -39,12 +33,6 @@ returns c =
     let i = o .before .before in
     closing-open (i .before .loop .inv) (i .loop-test .taken) (sym (o .is-open .ensures) ∙ c .if1 .taken)
 
-add-k : tie.Need-add-k Inv-loop μ-loop
-add-k c = search needs
-
-loop-less : tie.Need-loop-less Inv-loop μ-loop
-loop-less c = search needs
-
 loop-again : tie.Need-loop-again Inv-loop μ-loop
 loop-again c =
     let o = c .before in
@@ -57,4 +45,5 @@ returns-2 c = closing-end (c .before .loop .inv) (c .loop-test .left)
 pub some-open-spec : {M : Type 1} → statement M
 some-open-spec =
     tie.close
-    (tie.spec Inv-loop μ-loop loop-holds mul-hi shared-slice-read-hi cast-hi is-open-requires returns add-k loop-less loop-again returns-2)
+    (tie.spec Inv-loop μ-loop loop-holds (λ c. search needs) (λ c. search needs) cast-hi is-open-requires returns (λ c. search needs) (λ c. search needs) loop-again
+    returns-2)

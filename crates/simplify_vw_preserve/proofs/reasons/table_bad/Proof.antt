@@ -14,9 +14,6 @@ Inv-loop rings points last₀ k₀ last k = Rising rings last k
 abbrev μ-loop : tie.MeasureT-loop
 μ-loop rings points last₀ k₀ last k = length rings - k
 
-new-requires : tie.Need-new-requires Inv-loop μ-loop
-new-requires c κs = search needs
-
 returns : tie.Need-returns Inv-loop μ-loop
 returns c = bad-empty _ _ (sym (c .before .before .new .ensures) ∙ c .if1 .taken)
 
@@ -28,12 +25,6 @@ returns-2 c =
 loop-holds : tie.Need-loop-holds Inv-loop μ-loop
 loop-holds c = rising-start
 
-mul-hi : tie.Need-mul-hi Inv-loop μ-loop
-mul-hi c = search needs
-
-shared-slice-read-hi : tie.Need-shared-slice-read-hi Inv-loop μ-loop
-shared-slice-read-hi c = search needs
-
 cast-hi : tie.Need-cast-hi Inv-loop μ-loop
 cast-hi c = omega (arith, c .shared-slice-known2 .given (c .before .before .loop .k))
 
@@ -41,12 +32,6 @@ returns-3 : tie.Need-returns-3 Inv-loop μ-loop
 returns-3 c =
     let i = c .before .before in
     bad-falls (i .before .loop .inv) (i .loop-test .taken) _ (c .if3 .taken)
-
-add-k : tie.Need-add-k Inv-loop μ-loop
-add-k c = search needs
-
-loop-less : tie.Need-loop-less Inv-loop μ-loop
-loop-less c = search needs
 
 loop-again : tie.Need-loop-again Inv-loop μ-loop
 loop-again c =
@@ -64,18 +49,5 @@ returns-4 c =
 pub table-bad-spec : {M : Type 1} → statement M
 table-bad-spec =
     tie.close
-    (tie.spec
-    Inv-loop
-    μ-loop
-    new-requires
-    returns
-    returns-2
-    loop-holds
-    mul-hi
-    shared-slice-read-hi
-    cast-hi
-    returns-3
-    add-k
-    loop-less
-    loop-again
-    returns-4)
+    (tie.spec Inv-loop μ-loop (λ c κs. search needs) returns returns-2 loop-holds (λ c. search needs) (λ c. search needs) cast-hi returns-3 (λ c. search needs)
+    (λ c. search needs) loop-again returns-4)

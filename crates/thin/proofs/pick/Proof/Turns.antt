@@ -1,6 +1,6 @@
 -- The loop of `pick`: stale scores go, and the first live one is the rule's candidate. Assumes nothing.
 use mathlib.Core.Path.{_≡_, refl, sym, ap, _∙_, subst}
-use mathlib.Core.Bool.{Bool, true, false, cond}
+use mathlib.Core.Bool.{Bool, true, false, cond, _&&_}
 use mathlib.Core.List.{List}
 use mathlib.Core.Option.{Option, none, some}
 use Prim.Native.Nat.{ℕ, suc, _-_, _≤_, _<_}
@@ -18,6 +18,7 @@ use Rattle.heap.proofs.Memory.{room-holds, holds-at, framed-self, framed-more, 
 use Rattle.links.specs.Words.{HasLinks, SameLinks}
 use Rattle.links.specs.Ring.{Triple, Live}
 use Rattle.links.proofs.Ring.{ring-up, triple-alive}
+use Rattle.links.proofs.Tests.{both}
 use Rattle.links.proofs.Memory.{same-from, ring-same, live-same}
 use Rattle.links.specs.Calls.{LiveIs}
 use Rattle.thin.specs.Queue.{View, RingOf, QueueOf, chosen, Choice, candidateOf, PickDone}
@@ -107,8 +108,8 @@ module _ {fs : List Float} {ws : List ℕ} {m : Layout} {len : ℕ} {fs′ : Lis
               let mine : Triple (v .kept) (s .left) (s .current) (s .right) = rw (i .left, i .current, i .right) t in
               tells .stale e (subst (Live ws′ m) (pops .root ∙ sym loads) (triple-alive (ring v h) mine))
 
-    -- it is live, and above the tolerance or not
-    module _ (e : alive ≡ true) (t : Float) {above : Bool} (compares : above ≡ lt t (top .area)) where
+    -- it is live
+    module _ (e : alive ≡ true) where
       live : Live ws′ m (scoreAt fs′ ws′ m 0)
       live = subst (Live ws′ m) loads (tells .live e)
 
@@ -123,33 +124,40 @@ module _ {fs : List Float} {ws : List ℕ} {m : Layout} {len : ℕ} {fs′ : Lis
         exact = subst (λ (s : VScore). s .area ≡ v .scale .value (v .score (s .left) (s .current) (s .right))) (sym loads)
             (p .queue v φ h q .each 0 some-left .exact root)
 
-        choice : Choice v t ≡ cond above none (some (candidateOf v top))
-        choice = chosen-by (v .scale) t
+        -- and above the tolerance or not
+        choice : (t : Float) {above : Bool} → above ≡ lt t (top .area) → Choice v t ≡ cond above none (some (candidateOf v top))
+        choice t compares = chosen-by (v .scale) t
             (subst (λ (s : VScore). least (v .score) (v .kept) ≡ some (candidateOf v s)) (sym loads)
             (root-least v φ ws′ m (ring v h) (p .queue v φ h q) some-left live))
             (ap (lt t) (sym exact) ∙ sym compares)
 
-      pub pick-above : above ≡ true → PickDone fs ws m len t fs′ ws′ (Nothing k)
-      pick-above z = record {
+    -- both as they are tested
+    module _ (t : Float) {above : Bool} (compares : above ≡ lt t (top .area)) where
+      pub pick-above : (alive && above) ≡ true → PickDone fs ws m len t fs′ ws′ (Nothing k)
+      pick-above z = let b = both alive above z in record {
         framed = p .framed;
-        picked = (p .few, λ v φ h q. (choice v φ h q ∙ ap (λ (b : Bool). cond b none (some (candidateOf v top))) z, p .queue v φ h q));
+        picked = (
+          p .few,
+          λ v φ h q. (choice (b .0) v φ h q t compares ∙ ap (λ (x : Bool). cond x none (some (candidateOf v top))) (b .1), p .queue v φ h q),
+        );
       }
 
-      pub pick-found : above ≡ false → {s : VScore} {fs″ : List Float} {ws″ : List ℕ} → Popped fs′ ws′ m (k - 1) s fs″ ws″
-          → PickDone fs ws m len t fs″ ws″ (Found s (k - 1))
-      pick-found z {s} {fs″} {ws″} pops =
+      pub pick-found : alive ≡ true → (alive && above) ≡ false → {s : VScore} {fs″ : List Float} {ws″ : List ℕ} → Popped fs′ ws′ m (k - 1) s fs″ ws″
+          → PickDone fs ws m len t fs″ ws″ (Found top (k - 1))
+      pick-found e z {s} {fs″} {ws″} pops =
           let links : (i : ℕ) → SameLinks ws′ m ws″ i = same-from (λ j h. pops .framed .after j (omega (arith, p .few, p .fits, p .room .scores))) in
           let own : s .current ≡ top .current = ap (λ (x : VScore). x .current) (pops .root ∙ sym loads) in
-          subst (λ (x : VScore). PickDone fs ws m len t fs″ ws″ (Found x (k - 1))) (loads ∙ sym (pops .root)) (record {
+          let within : above ≡ false = ap (λ (x : Bool). x && above) (sym e) ∙ z in
+          record {
             framed = popped-framed pops;
             picked = (
               omega (arith, p .few),
               live-same (links (top .current)) (tells .live e),
               λ v φ h q. record {
-                chose = choice v φ h q ∙ ap (λ (b : Bool). cond b none (some (candidateOf v top))) z;
-                area = exact v φ h q;
-                stands = stands v φ h q;
+                chose = choice e v φ h q t compares ∙ ap (λ (x : Bool). cond x none (some (candidateOf v top))) within;
+                area = exact e v φ h q;
+                stands = stands e v φ h q;
                 queue = queue-less (λ l c r b. (b .0, λ i. b .1 (sym (i .current) ∙ own))) (popped-queue pops v φ h q);
               },
             );
-          })
+          }

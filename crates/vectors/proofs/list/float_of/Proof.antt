@@ -22,17 +22,8 @@ by-digits f b h = rw (eq-eqb _ _ h, and-false) tt
 float-from-bits-result : tie.Need-float-from-bits-result
 float-from-bits-result c = by-exponent binary64 _ (c .if1 .taken)
 
-returns : tie.Need-returns
-returns c = search needs
-
 float-from-bits-result-2 : tie.Need-float-from-bits-result-2
 float-from-bits-result-2 c = by-digits binary64 _ (c .if2 .taken)
 
-returns-2 : tie.Need-returns-2
-returns-2 c = search needs
-
-returns-3 : tie.Need-returns-3
-returns-3 c = search needs
-
 pub float-of-spec : {M : Type 1} → statement M
-float-of-spec = tie.close (tie.spec float-from-bits-result returns float-from-bits-result-2 returns-2 returns-3)
+float-of-spec = tie.close (tie.spec float-from-bits-result (λ c. search needs) float-from-bits-result-2 (λ c. search needs) (λ c. search needs))
