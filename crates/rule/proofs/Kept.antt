@@ -132,9 +132,6 @@ pub left-rises : (ps : List Point) (t : Float) (n : ℕ) → Rising 0 (length ps
 unfolding leftAfter
 left-rises ps t n = rising-leave 0 (length ps) (take n (removed ps t)) (all ps) (rising-all ps)
 
-pub left-up : (ps : List Point) (t : Float) (n : ℕ) → Up 0 (leftAfter ps t n)
-left-up ps t n = left-rises ps t n .up
-
 -- so is what the index rule keeps,
 pub index-rises : (ps : List Point) (t : Float) → Rising 0 (length ps) (indexRule ps t)
 unfolding indexRule

@@ -166,10 +166,6 @@ pub zeroed-long : (a : Area) → Long (zeroed a)
 unfolding zeroed
 zeroed-long a = record { floats = cleared-long zeroFloat areaFloats (a .floats); words = cleared-long 0 areaWords (a .words) }
 
-pub zeroed-level : (a : Area) → Long a → (length (zeroed a .floats) ≡ length (a .floats)) × (length (zeroed a .words) ≡ length (a .words))
-unfolding zeroed
-zeroed-level a h = (cleared-level zeroFloat areaFloats (a .floats) (h .floats), cleared-level 0 areaWords (a .words) (h .words))
-
 pub zeroed-not-open : (j : ℕ) (a : Area) → j < slots → isOpen (part j (zeroed a)) ≡ false
 unfolding isOpen zeroed
 zeroed-not-open j a h = first-word slotWords areaWords (omega arith) (omega arith)

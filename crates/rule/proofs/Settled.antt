@@ -6,18 +6,17 @@ use mathlib.Core.Option.{Option}
 use Prim.Native.Nat.{ℕ, zero, suc}
 use native.Mathlib.Omega.{arith}
 use lib.Ieee.{Float}
-use Rattle.rule.specs.declared.Reason.{Reason}
 use Rattle.rule.specs.declared.Thinned.{Thinned}
 use Rattle.rule.specs.declared.Outcome.{Outcome}
 use Rattle.rule.specs.declared.Step.{Step}
 use Rattle.rule.specs.declared.Listing.{Listing}
 use Rattle.rule.specs.Grid.{Point}
-use Rattle.rule.specs.Answers.{number, Answer, refusedFor, ofThinned, ofOutcome, ofStep, ofListing}
+use Rattle.rule.specs.Answers.{Answer, ofThinned, ofOutcome, ofStep, ofListing}
 use Rattle.rule.specs.Area.{Area, part, OnlyPart}
 use Rattle.rule.specs.Reasons.{refusal, openReason, slotReason}
 use Rattle.rule.specs.Whole.{Call, Lists, Lent, Thins, LentRings, ThinsRings}
 use Rattle.rule.specs.SlotCalls.{Clears, Closes, Opens, Steps, Reads}
-use Rattle.rule.proofs.Answers.{number-not-0, thinned-same, outcome-same, step-same, listing-same}
+use Rattle.rule.proofs.Answers.{thinned-same, outcome-same, step-same, listing-same}
 use Rattle.rule.proofs.Parts.{both-only}
 
 -- ---- once for every call that its input settles
@@ -114,10 +113,3 @@ module _ {S : Type 0} {reason : ℕ} {off : Option ℕ} {answer : Answer} {left 
 
   pub call-done : {r : Answer} {after : S} → reason ≡ 0 → r ≡ answer → after ≡ left → Call reason off answer left before r after
   call-done e f g = record { refuses = λ n h. absurd (omega (arith, sym e ∙ h)); does = λ h. (f, g) }
-
-  -- by the reason itself, with the place that comes with it
-  pub call-refused-for : {after : S} (w : Reason) → refusedFor w ≡ refusal reason off → after ≡ before → Call reason off answer left before (refusedFor w) after
-  call-refused-for w f g = record { refuses = λ n h. (f ∙ ap (λ (i : ℕ). refusal i off) h, g); does = λ h. absurd (number-not-0 w (numbers ∙ h)) }
-    where
-      numbers : number w ≡ reason
-      numbers = cc

@@ -8,15 +8,14 @@ use native.Mathlib.Nat.{sub-zero}
 use native.Mathlib.Omega.{arith}
 use lib.ListN.{length}
 use lib.Ieee.{Float, lt}
-use Rattle.rule.specs.Grid.{Point, within, isFinite, positive}
+use Rattle.rule.specs.Grid.{Point, within, isFinite}
 use Rattle.rule.specs.Plain.{Candidate, least, indices, all, areaAt, atMost, next}
-use Rattle.rule.specs.Preserve.{scoreWithin}
 use Rattle.grid.proofs.Halves.{above-is}
 use Rattle.layout.specs.declared.Layout.{Layout}
 use Rattle.layout.specs.Layout.{Room}
 use Rattle.vscore.specs.declared.VScore.{VScore}
-use Rattle.vscore.specs.Scale.{Scale, halves, demotable}
-use Rattle.vscore.proofs.Scales.{halves-faithful, above-demotable}
+use Rattle.vscore.specs.Scale.{Scale, halves}
+use Rattle.vscore.proofs.Scales.{halves-faithful}
 use Rattle.links.specs.Words.{unlinked, SameLinks, OnlyLinks}
 use Rattle.links.specs.Calls.{Joined}
 use Rattle.links.proofs.Memory.{same-from, ring-same, unlinked-only}
@@ -53,10 +52,6 @@ chosen-next ps t ks f = chosen-passing halves t (λ d. within d t) (λ d. above-
     same : (o : Option Candidate) → passing (λ d. within d t) o ≡ atMost t o
     same none = unfold atMost in refl
     same (some c) = unfold atMost in refl
-
--- by the preserving rule
-pub chosen-within : (t : Float) (o : Option Candidate) → isFinite t ≡ true → positive t ≡ true → chosen (demotable t) t o ≡ passing (λ n. scoreWithin n t) o
-chosen-within t o f p = chosen-passing (demotable t) t (λ n. scoreWithin n t) (λ n. above-demotable t n f p) o
 
 -- ---- one step of the plain rule
 
