@@ -57,7 +57,7 @@ rounded s n z k h l e = record { sign = s; size = n; value = round-whole binary6
 round-scaled : (s : Bool) (n c : ℕ) → 0 < c → round binary64 s (n * c) c ≡ round binary64 s n 1
 round-scaled s n c C = round-same binary64 s (n * c) c n 1 C (lit< tt) (mul-one (n * c))
 
-sub-mul : (p q c : ℕ) → p * c - q * c ≡ (p - q) * c
+pub sub-mul : (p q c : ℕ) → p * c - q * c ≡ (p - q) * c
 sub-mul p q c = rw (mul-comm p c, mul-comm q c, ← mul-sub c p q) (mul-comm c (p - q))
 
 sum-scaled : (s t : Bool) (p q c : ℕ) → 0 < c → sum binary64 s (p * c) t (q * c) c ≡ sum binary64 s p t q 1
@@ -74,16 +74,21 @@ sum-scaled s t p q c C =
       round-scaled (s && ltb q p) (p - q) c C,
     )
 
+-- a difference is no larger than the larger of the two
+pub less-is : (p q k : ℕ) → p ≤ k → q ≤ k → k ≤ 2 ^ 53 → Whole (sum binary64 false p true q 1) (pos p -ℤ pos q) k
+unfolding sum
+less-is p q k i j l = go (ltb p q) (ltb→lt p q) (nltb→le p q)
+  where
+    go : (b : Bool) → (T b → p < q) → (T (not b) → q ≤ p) → Whole (cond b (round binary64 true (q - p) 1) (round binary64 false (p - q) 1)) (pos p -ℤ pos q) k
+    go true f g = rounded true (q - p) (pos p -ℤ pos q) k (omega arith) l (sym (less-down p q (le-of-lt (f tt))))
+    go false f g = rounded false (p - q) (pos p -ℤ pos q) k (omega arith) l (sym (less-up p q (g tt)))
+
 module _ (p q k : ℕ) (h : p + q ≤ k) (l : k ≤ 2 ^ 53) where
   sum-is : (s t : Bool) → Whole (sum binary64 s p t q 1) (signed s p +ℤ signed t q) k
   unfolding sum
   sum-is false false = rounded false (p + q) (pos p +ℤ pos q) k h l refl
   sum-is true true = rounded true (p + q) (negℤ (pos p) +ℤ negℤ (pos q)) k h l (negℤ-+ℤ (pos p) (pos q))
-  sum-is false true = go (ltb p q) (ltb→lt p q) (nltb→le p q)
-    where
-      go : (b : Bool) → (T b → p < q) → (T (not b) → q ≤ p) → Whole (cond b (round binary64 true (q - p) 1) (round binary64 false (p - q) 1)) (pos p +ℤ negℤ (pos q)) k
-      go true f g = rounded true (q - p) (pos p +ℤ negℤ (pos q)) k (omega arith) l (sym (less-down p q (le-of-lt (f tt))))
-      go false f g = rounded false (p - q) (pos p +ℤ negℤ (pos q)) k (omega arith) l (sym (less-up p q (g tt)))
+  sum-is false true = less-is p q k (omega arith) (omega arith) l
   sum-is true false = go (ltb p q) (ltb q p) (ltb→lt p q) (nltb→le p q) (nltb→le q p)
     where
       z : ℤ

@@ -5,13 +5,16 @@ ghost use Rattle.rule.specs.Grid.{onGrid, pointOf, area2, half};
 ghost use Rattle.rule.specs.Segment.{same};
 ghost use Rattle.grid.specs.On.{On};
 
+// 1.5 * 2^52. A sum of it and a number of the grid's size lies between 2^52 and 2^53, where every f64 is whole.
+const SHIFT: f64 = 6755399441055744.0;
+
 // v is a whole number from -2^24 to 2^24.
 pub fn on_grid(v: f64) -> bool
     ensures { λ r. ⌜ r ≡ onGrid v ⌝ }
 {
     if v < 16777217.0 {
         if -16777217.0 < v {
-            return std::num::nearest_i64_to_f64(std::num::truncating_f64_to_i64(v)) == v;
+            return (v + SHIFT) - SHIFT == v;
         }
     }
     false
