@@ -1,5 +1,4 @@
 -- `grid::on_grid` meets its contract. Assumes nothing.
-use borrow.Author.Needs.{needs}
 use lib.Ieee.{ofBits, neg}
 mod Shift
 use Rattle.grid.proofs.on_grid.Proof.Shift.{too-high, too-low, back}
