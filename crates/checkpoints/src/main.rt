@@ -152,20 +152,20 @@ fn slot_cases() {
 
 fn on_grid(v: f64) {
     io::write_all(1, b"on_grid");
-    show::float(v);
+    float(v);
     yes(grid::on_grid(v));
 }
 
 fn area(ax: f64, ay: f64, bx: f64, by: f64, cx: f64, cy: f64) {
     io::write_all(1, b"area");
-    show::float(grid::area(ax, ay, bx, by, cx, cy));
+    float(grid::area(ax, ay, bx, by, cx, cy));
     io::write_all(1, b"\n");
 }
 
 fn above(a: f64, t: f64) {
     io::write_all(1, b"above");
-    show::float(a);
-    show::float(t);
+    float(a);
+    float(t);
     yes(grid::above(a, t));
 }
 
@@ -177,24 +177,24 @@ fn sooner(s: VScore, u: VScore) {
 }
 
 fn score(s: VScore) {
-    show::count(s.left as u64);
-    show::count(s.current as u64);
-    show::count(s.right as u64);
-    show::float(s.area);
+    count(s.left as u64);
+    count(s.current as u64);
+    count(s.right as u64);
+    float(s.area);
 }
 
 fn reason(w: Reason) {
     io::write_all(1, b"reason");
-    show::count(w.number() as u64);
-    show::count(w.place() as u64);
+    count(numbered::number(w) as u64);
+    count(numbered::place(w) as u64);
     io::write_all(1, b"\n");
 }
 
 fn part(k: SlotNumber) {
     let at = Slot::new(k);
     io::write_all(1, b"part");
-    show::count(at.floats as u64);
-    show::count(at.words as u64);
+    count(at.floats as u64);
+    count(at.words as u64);
     io::write_all(1, b"\n");
 }
 
@@ -204,4 +204,19 @@ fn yes(b: bool) {
     } else {
         io::write_all(1, b" no\n");
     }
+}
+
+// A space and then a number; a float by its 64 bits.
+fn float(v: f64) {
+    io::write_all(1, b" ");
+    if v == v {
+        io::print_hex(1, bits::of(v), 16);
+    } else {
+        io::write_all(1, b"nan");
+    }
+}
+
+fn count(n: u64) {
+    io::write_all(1, b" ");
+    io::print_decimal(1, n);
 }

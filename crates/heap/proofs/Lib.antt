@@ -1,7 +1,6 @@
--- The laws that the crates above cite, and those of a place set anew, of a heap with a hole, and of the first of the places below one.
+-- The laws that the crates above cite, and those of a place set anew, of a score stored there and of a heap with a hole.
 pub mod Order
-pub mod Scores
-pub mod Memory
+pub mod Heap
 mod Places
+mod Stored
 mod Holes
-mod Children

@@ -3,21 +3,14 @@ use mathlib.Core.Path.{_≡_}
 use mathlib.Core.Bool.{Bool}
 use mathlib.Core.List.{List}
 use mathlib.Core.Logic.{_⊎_}
-use Prim.Native.Nat.{ℕ, suc, _+_, _≤_, _<_}
+use Prim.Native.Nat.{ℕ, suc, _+_, _<_}
 use lib.Ieee.{Float}
 use Rattle.layout.specs.declared.Layout.{Layout}
 use Rattle.vscore.specs.declared.VScore.{VScore}
 use Rattle.vscore.specs.Scale.{Scale, Faithful}
+use Rattle.scores.specs.Memory.{scoreAt, Framed}
+use Rattle.scores.specs.Scores.{Proper, Le}
 use Rattle.heap.specs.Order.{HeapBy, tick, count}
-use Rattle.heap.specs.Memory.{scoreAt, Framed}
-
--- the area stands for a score of the scale
-abbrev pub Proper : Scale → VScore → Type 0
-Proper σ s = s .area ≡ σ .value (σ .key (s .area))
-
--- a is not after b: the key, then the index
-abbrev pub Le : Scale → VScore → VScore → Type 0
-Le σ a b = (σ .key (a .area) < σ .key (b .area)) ⊎ ((σ .key (a .area) ≡ σ .key (b .area)) × (a .current ≤ b .current))
 
 abbrev pub Heap : Scale → ℕ → (ℕ → VScore) → Type 0
 Heap σ n h = HeapBy (Le σ) n h

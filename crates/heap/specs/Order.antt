@@ -2,10 +2,7 @@
 use mathlib.Core.Bool.{Bool, true, false, cond}
 use Prim.Native.Nat.{ℕ, zero, suc, _+_, _-_, _/_, _<_}
 use lib.Dec.{eqb}
-
--- places below a place
-abbrev pub children : ℕ
-children = 4
+use Rattle.scores.specs.Children.{children}
 
 abbrev pub parent : ℕ → ℕ
 parent k = (k - 1) / children

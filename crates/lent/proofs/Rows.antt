@@ -11,9 +11,8 @@ use lib.Ieee.{Float}
 use borrow.Author.Tests.{eqb-true, ltb-false, not-false}
 use Rattle.rule.specs.Sizes.{mostPoints, scratchFloats, scratchWords}
 use Rattle.rule.specs.Grid.{isFinite}
-use Rattle.rule.specs.Reasons.{Row, firstOf, isSome, firstOffGrid, lengthsDiffer, tooManyPoints, someOffGrid, outputShort, scratchShort, lineRows, repeatReason, thinReason}
+use Rattle.rule.specs.Reasons.{Row, firstOf, isSome, firstOffGrid, lengthsDiffer, tooManyPoints, someOffGrid, outputShort, scratchShort, lineRows, repeatReason}
 use Rattle.rule.specs.Whole.{Lent}
-use Rattle.lent.specs.Verdict.{memoryRows}
 use Rattle.lent.specs.Fine.{Fine, Ready}
 use Rattle.lent.proofs.Scan.{on-all}
 
@@ -92,11 +91,3 @@ pub ready-of : (us vs : List Float) (t : Float) (m : Lent) (rs : List Row) → N
 ready-of us vs t m rs a h s =
     let short = room-for (length (m .floats)) (scratchFloats (length us)) (length (m .words)) (scratchWords (length us)) s in
     record { fine = fine-of us vs (a .0) (a .1 .0) (a .1 .1 .1 .0); finite = not-false (isFinite t) (a .1 .1 .0); room = h; floats = short .0; words = short .1 }
-
--- no reason of a call that thins a line
-pub thin-ready : (us vs : List Float) (t : Float) (m : Lent) → thinReason us vs t (length (m .out)) (length (m .floats)) (length (m .words)) ≡ 0 → Ready us vs t m
-unfolding thinReason
-thin-ready us vs t m e =
-    let more = memoryRows (ltb (length (m .out)) (length us)) (length (m .floats)) (length (m .words)) (length us) in
-    let a = none-applies (lineRows us vs t ++ more) refl e in
-    ready-of us vs t m more a (ltb-false (length (m .out)) (length us) (a .1 .1 .1 .1 .0)) (a .1 .1 .1 .1 .1 .0)

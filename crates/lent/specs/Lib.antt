@@ -1,4 +1,2 @@
 pub mod Found
-pub mod Verdict
 pub mod Fine
-pub mod Keeps

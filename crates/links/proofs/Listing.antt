@@ -10,7 +10,7 @@ use lib.ListN.{length, set, take, length-append, length-take, length-set}
 use lib.Seq.{take-all, take-nil, take-append-le}
 use Rattle.layout.specs.declared.Layout.{Layout}
 use Rattle.rule.specs.Whole.{over}
-use Rattle.rule.proofs.Over.{over-more}
+use Rattle.laws.proofs.Over.{over-more}
 use Rattle.links.specs.Words.{markAt}
 use Rattle.links.specs.Ring.{keptFrom, allUnmarked}
 use Rattle.links.specs.Calls.{Listed}

@@ -10,7 +10,7 @@ use native.Mathlib.Omega.{arith}
 use lib.Dec.{eqb}
 use borrow.Author.Tests.{eqb-true, eqb-false, eq-eqb, ne-eqb}
 use Rattle.rule.specs.Plain.{indices, without}
-use Rattle.rule.proofs.Kept.{Up, up-from}
+use Rattle.laws.proofs.Kept.{Up, up-from}
 use Rattle.links.specs.Ring.{keptFrom, In}
 use Rattle.links.proofs.Neighbours.{in-none, in-head, in-tail, in-cons}
 

@@ -10,7 +10,7 @@ use lib.Dec.{eqb}
 use borrow.Author.Tests.{eqb-true, eqb-false, eq-eqb}
 use Rattle.rule.specs.Plain.{without}
 use Rattle.rule.specs.Preserve.{member}
-use Rattle.rule.proofs.Kept.{Up}
+use Rattle.laws.proofs.Kept.{Up}
 use Rattle.links.specs.Ring.{In, Then, Triple}
 
 -- ---- membership

@@ -6,7 +6,7 @@ use Prim.Native.Nat.{ℕ, _+_, _-_, _≤_, _<_}
 use native.Mathlib.Decide.{ℕ-discrete}
 use native.Mathlib.Omega.{arith}
 use Rattle.rule.specs.Plain.{without}
-use Rattle.rule.proofs.Kept.{Up, up-from}
+use Rattle.laws.proofs.Kept.{Up, up-from}
 use Rattle.vscore.specs.declared.VScore.{VScore}
 use Rattle.links.specs.Ring.{keptFrom, In, Then, Triple, Linked, Alive}
 use Rattle.links.proofs.Neighbours.{next-unique, previous-unique, in-old, not-in, then-keep, bridge}

@@ -69,15 +69,15 @@ pub fn count_below(words: &[u32], m: Layout, hi: usize) -> usize
     requires { ⌜ HasLinks m (now words) × (hi ≤ m .points) ⌝ }
     ensures { λ r. ⌜ (r ≤ hi) × (r ≡ length (keptFrom (markAt (now (words .entry)) m) 0 hi)) ⌝ }
 {
-    let mut count = 0;
+    let mut below = 0;
     let mut i = 0;
     while i < hi {
         if kept(words, m, i) {
-            count += 1;
+            below += 1;
         }
         i += 1;
     }
-    count
+    below
 }
 
 // Lists the kept points from the start of out, as far as there is room, and says how many.

@@ -108,7 +108,7 @@ fn run(x: &[f64], y: &[f64], floats: &mut [f64], words: &mut [u32], m: Layout) -
                 };
             }
             Stepped::Removed(i, area, left) => {
-                sum = fold(fold(sum, i as u64), show::bits(area));
+                sum = fold(fold(sum, i as u64), bits::of(area));
                 len = left;
             }
         }

@@ -12,7 +12,7 @@ use Rattle.rule.specs.Reasons.{openReason}
 use Rattle.rule.specs.Whole.{Call}
 use Rattle.rule.specs.SlotCalls.{Opens, Steps, Reads}
 use Rattle.rule.proofs.Settled.{call-settled, OpenSettled, open-settled, StepSettled, step-settled, ReadSettled, read-settled}
-use Rattle.pylonfrith.specs.Packing.{packed, areaAfter, Packs}
+use Rattle.pack.specs.Packing.{packed, areaAfter, Packs}
 
 -- equal answers, equal numbers: what the Rattle promise settles is settled for C
 pub same-number : {A : Type 0} {of : A → Answer} {P Q : Answer → Type 0} {m n : ℕ} (a : Packs of P m) (b : Packs of Q n) → of (a .answer) ≡ of (b .answer) → m ≡ n

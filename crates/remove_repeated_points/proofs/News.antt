@@ -12,7 +12,7 @@ use lib.IntN.{pos}
 use Rattle.rule.specs.Grid.{Point, at}
 use Rattle.rule.specs.Segment.{same}
 use Rattle.rule.specs.Repeat.{changes, consecutive, isIn, firsts, anywhere}
-use Rattle.rule.proofs.Over.{over-more}
+use Rattle.laws.proofs.Over.{over-more}
 use Rattle.remove_repeated_points.specs.Back.{among, isNew, news, allNew, Listed}
 use Rattle.remove_repeated_points.proofs.Same.{same-sym}
 

@@ -30,7 +30,7 @@ pub fn remove_repeated_points_anywhere(x: &[f64], y: &[f64], out: &mut [u32]) ->
 fn keep_new(x: &[f64], y: &[f64], back: usize, out: &mut [u32]) -> Thinned
     ensures { λ r. ⌜ Lists (allNew back) (now (x .entry)) (now (y .entry)) (now (out .entry)) (ofThinned r) (now (out .exit)) ⌝ }
 {
-    match lent::repeat_reason(x, y, out.len()) {
+    match reasons::repeat_reason(x, y, out.len()) {
         Outcome::Refused(reason) => Thinned::Refused(reason),
         Outcome::Done => Thinned::Kept(list_new(x, y, back, out)),
     }

@@ -3,7 +3,6 @@ ghost use mathlib.Core.Path.{_≡_};
 ghost use Prim.Native.Nat.{_*_};
 ghost use lib.ListN.{length};
 ghost use Rattle.rule.specs.Sizes.{slotFloats, slotWords};
-ghost use Rattle.rule.specs.Answers.{number, place};
 
 // A place in the lent points. Never a slot.
 pub struct PointIndex(pub u32);
@@ -24,45 +23,6 @@ pub enum Reason {
     NoSuchSlot,
     SlotIsOpen,
     SlotNotOpen,
-}
-
-impl Reason {
-    pub fn number(self) -> u32
-        ensures { λ r. ⌜ r ≡ number self ⌝ }
-    {
-        match self {
-            Reason::LengthsDiffer => 1,
-            Reason::TooManyPoints => 2,
-            Reason::OffGrid(_) => 3,
-            Reason::ToleranceNotFinite => 4,
-            Reason::RingTable => 5,
-            Reason::RingNotClosed => 6,
-            Reason::OutputShort => 7,
-            Reason::MemoryShort => 8,
-            Reason::NoSuchSlot => 9,
-            Reason::SlotIsOpen => 10,
-            Reason::SlotNotOpen => 11,
-        }
-    }
-
-    // The point that comes with reason 3, else 0.
-    pub fn place(self) -> u32
-        ensures { λ r. ⌜ r ≡ place self ⌝ }
-    {
-        match self {
-            Reason::LengthsDiffer => 0,
-            Reason::TooManyPoints => 0,
-            Reason::OffGrid(point) => point.0,
-            Reason::ToleranceNotFinite => 0,
-            Reason::RingTable => 0,
-            Reason::RingNotClosed => 0,
-            Reason::OutputShort => 0,
-            Reason::MemoryShort => 0,
-            Reason::NoSuchSlot => 0,
-            Reason::SlotIsOpen => 0,
-            Reason::SlotNotOpen => 0,
-        }
-    }
 }
 
 // A list was written, of so many indices; or nothing was.

@@ -1,237 +1,278 @@
-// Plays scripts of slot calls on one work area, which is one place longer than the table of sizes asks and starts full of other numbers. Each call
-// prints what it answers. tools/expect-scripts plays the same statements on a model of document 01, and works out what must be printed.
-mod calls;
+// Plays the script on standard input through the C face, a slot call a line, and prints what each call answers. The work area is one place longer than the
+// table of sizes asks, and starts full of other numbers. A line is a call's word and its numbers, or one of these:
+//     lent FLOATS WORDS    from here on so many places of the area are lent
+//     edge                 prints the last places of the area, then those past it
+//     -- TITLE
+// tools/expect-scripts makes the script, and works out on a model of document 01 what must be printed.
+ghost use mathlib.Core.Path.{_≡_};
+ghost use lib.ListN.{length};
 
-use calls::Floats;
-use calls::Words;
-use calls::clear;
-use calls::close;
-use calls::edge;
-use calls::open;
-use calls::read;
-use calls::read_three;
-use calls::short;
-use calls::step;
-use calls::title;
+// An answer is the number of a reason times this and what comes with it.
+const HALF: u64 = 4294967296;
 
-const L_X: [f64; 5] = [5.0, 3.0, 6.0, 7.0, 10.0];
+const FINISHED: u64 = 255;
 
-const L_Y: [f64; 5] = [2.0, 8.0, 20.0, 25.0, 10.0];
+// What stands in the place for an area that is not written.
+const NO_AREA: f64 = -1.0;
 
-const M_X: [f64; 8] = [10.0, 135.0, 94.0, 126.0, 280.0, 117.0, 300.0, 301.0];
+// Every word has its numbers past this place, and the fourth letter tells the words apart.
+const NUMBERS: usize = 5;
 
-const M_Y: [f64; 8] = [60.0, 68.0, 48.0, 31.0, 19.0, 48.0, 40.0, 10.0];
+const LETTER: usize = 3;
 
-// Each candidate's area is 1: the lower index goes first.
-const TIED_X: [f64; 5] = [0.0, 1.0, 2.0, 3.0, 4.0];
+struct Lent {
+    floats: u32,
+    words: u32,
+}
 
-const TIED_Y: [f64; 5] = [0.0, 1.0, 0.0, 1.0, 0.0];
-
-// The cross product comes out as -0.0.
-const FLAT_X: [f64; 3] = [0.0, -1.0, -0.0];
-
-const FLAT_Y: [f64; 3] = [0.0, 0.0, 0.0];
-
-// The largest area, 2^49.
-const WIDE_X: [f64; 3] = [-16777216.0, 16777216.0, 16777216.0];
-
-const WIDE_Y: [f64; 3] = [-16777216.0, -16777216.0, 16777216.0];
-
-// Off the grid by x at 3, by y at 1.
-const OFF_X: [f64; 5] = [0.0, 1.0, 2.0, 0.5, 4.0];
-
-const OFF_Y: [f64; 5] = [0.0, 16777217.0, 0.0, 0.0, 0.0];
+// What comes before the points of a line that is opened.
+struct Opening {
+    tolerance: f64,
+    xs: u32,
+    ys: u32,
+    // the place past them
+    next: usize,
+}
 
 fn main() {
-    let mut floats = [0.5; 163841];
-    let mut words = [7; 393345];
-    let mut few_floats = [0.5; 163839];
-    let mut few_words = [7; 393343];
-    short(&mut few_floats, &mut words);
-    short(&mut floats, &mut few_words);
-    play(&mut floats, &mut words);
+    let mut text = io::large_buffer();
+    let mut floats = area_floats();
+    let mut words = area_words();
+    let n = io::read_full(0, &mut text);
+    play(&text[..n], &mut floats, &mut words);
 }
 
-fn play(floats: &mut Floats, words: &mut Words) {
-    edge(floats, words);
-    other_hands(floats, words);
-    edge(floats, words);
-    turns(floats, words);
-    refusals(floats, words);
-    lines(floats, words);
-    eight(floats, words);
-    level(floats, words);
-    few(floats, words);
-    most(floats, words);
-    clear(floats, words);
-    edge(floats, words);
+// Each `ensures` gives only the length, which lending the array as a slice needs.
+fn area_floats() -> [f64; 163841]
+    ensures { λ r. ⌜ 163841 ≡ length r ⌝ }
+{
+    [0.5; 163841]
 }
 
-// On an area that was not cleared reasons 8 to 11 are exact, and a closed slot can be opened.
-fn other_hands(floats: &mut Floats, words: &mut Words) {
-    title(b"other hands");
-    open_l(floats, words, 7, 30.0);
-    open_l(floats, words, 8, 30.0);
-    close(floats, words, 7);
-    step(floats, words, 7);
-    open_l(floats, words, 7, 30.0);
-    advance(floats, words, 7);
-    open_l(floats, words, 6, 30.0);
-    close(floats, words, 7);
+fn area_words() -> [u32; 393345]
+    ensures { λ r. ⌜ 393345 ≡ length r ⌝ }
+{
+    [7; 393345]
 }
 
-// L in slots 0 and 1, stepped by turns.
-fn turns(floats: &mut Floats, words: &mut Words) {
-    title(b"turns");
-    clear(floats, words);
-    open_l(floats, words, 0, 30.0);
-    open_l(floats, words, 1, 28.5);
-    advance(floats, words, 0);
-    advance(floats, words, 1);
-    advance(floats, words, 1);
-    advance(floats, words, 0);
-    advance(floats, words, 1);
-    advance(floats, words, 0);
+// For a point more than a line may have.
+fn coordinates() -> [f64; 8194]
+    ensures { λ r. ⌜ 8194 ≡ length r ⌝ }
+{
+    [0.0; 8194]
 }
 
-// Refused calls beside an open slot, which goes on as if they had not been.
-fn refusals(floats: &mut Floats, words: &mut Words) {
-    title(b"refusals");
-    clear(floats, words);
-    advance(floats, words, 7);
-    close(floats, words, 7);
-    open_l(floats, words, 7, 30.0);
-    open_m(floats, words, 7, 668.6);
-    open_l(floats, words, 8, 30.0);
-    advance(floats, words, 8);
-    close(floats, words, 8);
-    advance(floats, words, 4294967295);
-    advance(floats, words, 7);
-    read_three(floats, words, 7);
-    close(floats, words, 6);
-    advance(floats, words, 7);
-    read_three(floats, words, 7);
-    close(floats, words, 7);
-    advance(floats, words, 7);
+fn play(text: &[u8], floats: &mut [f64], words: &mut [u32]) {
+    let mut lent = Lent {
+        floats: 163841,
+        words: 393345,
+    };
+    let mut at = 0;
+    while at < text.len() {
+        let next = numbers::next_line(text, at);
+        lent = play_line(&text[at..next], lent, floats, words);
+        at = next;
+    }
 }
 
-// The reasons of a line, and which of two comes first.
-fn lines(floats: &mut Floats, words: &mut Words) {
-    title(b"lines");
-    open(floats, words, 0, &L_X, &M_Y, 30.0);
-    open_l(floats, words, 0, 0.0 / 0.0);
-    open_l(floats, words, 0, 1.0 / 0.0);
-    open(floats, words, 0, &OFF_X, &L_Y, 30.0);
-    open(floats, words, 0, &OFF_X, &OFF_Y, 30.0);
-    open(floats, words, 0, &OFF_X, &OFF_Y, -1.0 / 0.0);
-    open(floats, words, 0, &OFF_X, &M_Y, 0.0 / 0.0);
-    open_l(floats, words, 0, 30.0);
-    open(floats, words, 0, &OFF_X, &M_Y, 0.0 / 0.0);
-    advance(floats, words, 0);
+fn play_line(line: &[u8], lent: Lent, floats: &mut [f64], words: &mut [u32]) -> Lent {
+    let letter = kind(line);
+    if !is_call(letter) {
+        return note(line, letter, lent, floats, words);
+    }
+    let f = numbers::least(lent.floats, floats.len());
+    let w = numbers::least(lent.words, words.len());
+    call(line, letter, &mut floats[..f], &mut words[..w]);
+    end();
+    lent
 }
 
-// All slots open at once. Some are closed beside the others, one is opened anew, and they go on until all are finished, again and again.
-fn eight(floats: &mut Floats, words: &mut Words) {
-    title(b"eight");
-    clear(floats, words);
-    open_l(floats, words, 0, 30.0);
-    open_m(floats, words, 1, 1e300);
-    open_l(floats, words, 2, 28.5);
-    open_m(floats, words, 3, 668.6);
-    open_l(floats, words, 4, 1.5);
-    open_tied(floats, words, 5, 2.0);
-    open_m(floats, words, 6, 700.0);
-    open_m(floats, words, 7, 1e300);
-    advance_each(floats, words);
-    advance_each(floats, words);
-    close(floats, words, 3);
-    close(floats, words, 7);
-    advance_each(floats, words);
-    open_l(floats, words, 3, 1e300);
-    advance_each(floats, words);
-    advance_each(floats, words);
-    advance_each(floats, words);
+// What a line is: a title, or a word that its letter tells.
+fn kind(line: &[u8]) -> u8 {
+    if numbers::byte(line, 0) == b'-' {
+        return b'-';
+    }
+    numbers::byte(line, LETTER)
 }
 
-// Areas equal to the tolerance and a little above it, equal areas, flat points and the largest area.
-fn level(floats: &mut Floats, words: &mut Words) {
-    title(b"level");
-    clear(floats, words);
-    open_l(floats, words, 0, 29.0);
-    open_l(floats, words, 1, 28.999999999999996);
-    open_tied(floats, words, 2, 1.0);
-    open_flat(floats, words, 3, -0.0);
-    open_flat(floats, words, 4, -5e-324);
-    open_wide(floats, words, 5, 562949953421312.0);
-    open_wide(floats, words, 6, 562949953421311.94);
-    open_m(floats, words, 7, 668.0);
-    advance_each(floats, words);
-    advance_each(floats, words);
+fn is_call(letter: u8) -> bool {
+    match letter {
+        b'-' | b't' | b'e' => false,
+        _ => true,
+    }
 }
 
-// Fewer than three points: all kept.
-fn few(floats: &mut Floats, words: &mut Words) {
-    title(b"few");
-    clear(floats, words);
-    open(floats, words, 0, &L_X[0..0], &L_Y[0..0], 1e300);
-    open(floats, words, 1, &L_X[0..1], &L_Y[0..1], 1e300);
-    open(floats, words, 2, &L_X[0..2], &L_Y[0..2], 1e300);
-    open(floats, words, 3, &L_X[0..3], &L_Y[0..3], 1e300);
-    open(floats, words, 4, &L_X[0..1], &L_Y[0..0], 1e300);
-    advance_each(floats, words);
+// A title and what is lent from here on are printed as they stand.
+fn note(line: &[u8], letter: u8, lent: Lent, floats: &[f64], words: &[u32]) -> Lent {
+    if letter == b'e' {
+        edge(floats, words);
+        return lent;
+    }
+    io::write_all(1, line);
+    if letter == b't' {
+        return read_lent(line);
+    }
+    lent
 }
 
-// 4,096 points, 4,097, and the last off the grid.
-fn most(floats: &mut Floats, words: &mut Words) {
-    title(b"most");
-    let level = [0.0; 4097];
-    let mut x = [1.0; 4096];
-    clear(floats, words);
-    open(floats, words, 7, &level, &level, 0.0);
-    open(floats, words, 7, &level, &x, 0.0);
-    open(floats, words, 7, &x, &level[0..4096], 0.0);
-    advance(floats, words, 7);
-    x[4095] = 0.5;
-    open(floats, words, 6, &x, &level[0..4096], 0.0);
-    open(floats, words, 6, &level[0..4096], &x, 0.0);
-    advance(floats, words, 7);
+fn read_lent(line: &[u8]) -> Lent {
+    let floats = numbers::read_number(line, NUMBERS);
+    let words = numbers::read_number(line, floats.next);
+    Lent {
+        floats: numbers::narrow(floats.value),
+        words: numbers::narrow(words.value),
+    }
 }
 
-// A step in every slot.
-fn advance_each(floats: &mut Floats, words: &mut Words) {
-    advance(floats, words, 0);
-    advance(floats, words, 1);
-    advance(floats, words, 2);
-    advance(floats, words, 3);
-    advance(floats, words, 4);
-    advance(floats, words, 5);
-    advance(floats, words, 6);
-    advance(floats, words, 7);
+// Prints the line as far as the slot, and then the answer.
+fn call(line: &[u8], letter: u8, floats: &mut [f64], words: &mut [u32]) {
+    let read = numbers::read_number(line, NUMBERS);
+    let at = read.next;
+    let slot = numbers::narrow(read.value);
+    print_until(line, at);
+    if letter == b'p' {
+        step(slot, floats, words);
+        return;
+    }
+    if letter == b'd' {
+        read_slot(line, at, slot, floats, words);
+        return;
+    }
+    done(change(line, letter, at, slot, floats, words));
 }
 
-// A step between two reads.
-fn advance(floats: &mut Floats, words: &mut Words, slot: u32) {
-    read(floats, words, slot);
-    step(floats, words, slot);
-    read(floats, words, slot);
+// The calls that give no more than an outcome.
+fn change(
+    line: &[u8],
+    letter: u8,
+    at: usize,
+    slot: u32,
+    floats: &mut [f64],
+    words: &mut [u32],
+) -> u64 {
+    if letter == b'a' {
+        return pylonfrith::pf_clear(floats, words);
+    }
+    if letter == b's' {
+        return pylonfrith::pf_close(floats, words, slot);
+    }
+    open(line, at, slot, floats, words)
 }
 
-fn open_l(floats: &mut Floats, words: &mut Words, slot: u32, tolerance: f64) {
-    open(floats, words, slot, &L_X, &L_Y, tolerance);
+fn step(slot: u32, floats: &mut [f64], words: &mut [u32]) {
+    let mut area = NO_AREA;
+    let n = pylonfrith::pf_step(floats, words, slot, &mut area);
+    answer(n, b" removed");
+    float(area);
 }
 
-fn open_m(floats: &mut Floats, words: &mut Words, slot: u32, tolerance: f64) {
-    open(floats, words, slot, &M_X, &M_Y, tolerance);
+fn open(line: &[u8], at: usize, slot: u32, floats: &mut [f64], words: &mut [u32]) -> u64 {
+    let mut points = coordinates();
+    let o = read_opening(line, at);
+    numbers::read_coordinates(line, o.next, 8194, &mut points);
+    open_line(o, slot, &points, floats, words)
 }
 
-fn open_tied(floats: &mut Floats, words: &mut Words, slot: u32, tolerance: f64) {
-    open(floats, words, slot, &TIED_X, &TIED_Y, tolerance);
+// The y follow the x.
+fn open_line(o: Opening, slot: u32, points: &[f64], floats: &mut [f64], words: &mut [u32]) -> u64 {
+    let a = numbers::least(o.xs, points.len());
+    let b = numbers::least(o.ys, points.len() - a);
+    pylonfrith::pf_open(
+        floats,
+        words,
+        slot,
+        &points[..a],
+        &points[a..a + b],
+        o.tolerance,
+    )
 }
 
-fn open_flat(floats: &mut Floats, words: &mut Words, slot: u32, tolerance: f64) {
-    open(floats, words, slot, &FLAT_X, &FLAT_Y, tolerance);
+fn read_opening(line: &[u8], at: usize) -> Opening {
+    let tolerance = numbers::read_number(line, at);
+    let xs = numbers::read_number(line, tolerance.next);
+    let ys = numbers::read_number(line, xs.next);
+    Opening {
+        tolerance: numbers::float_of(tolerance.value),
+        xs: numbers::narrow(xs.value),
+        ys: numbers::narrow(ys.value),
+        next: ys.next,
+    }
 }
 
-fn open_wide(floats: &mut Floats, words: &mut Words, slot: u32, tolerance: f64) {
-    open(floats, words, slot, &WIDE_X, &WIDE_Y, tolerance);
+// With as many places for the indices as the line says, nine at most.
+fn read_slot(line: &[u8], at: usize, slot: u32, floats: &[f64], words: &[u32]) {
+    let mut out = [99; 9];
+    let places = numbers::read_number(line, at);
+    let n = numbers::least(numbers::narrow(places.value), 9);
+    read_into(slot, floats, words, &mut out[..n]);
+}
+
+fn read_into(slot: u32, floats: &[f64], words: &[u32], out: &mut [u32]) {
+    answer(pylonfrith::pf_read(floats, words, slot, out), b" listed");
+    io::write_all(1, b":");
+    all(out);
+}
+
+fn edge(floats: &[f64], words: &[u32]) {
+    io::write_all(1, b"edge");
+    place(floats, words, 163839, 393343);
+    place(floats, words, 163840, 393344);
+    end();
+}
+
+fn place(floats: &[f64], words: &[u32], f: usize, w: usize) {
+    if f < floats.len() {
+        float(floats[f]);
+    }
+    if w < words.len() {
+        word(words[w]);
+    }
+}
+
+fn done(n: u64) {
+    answer(n, b" done");
+}
+
+fn answer(n: u64, accepted: &[u8]) {
+    let number = n / HALF;
+    if number == 0 {
+        io::write_all(1, accepted);
+    } else if number == FINISHED {
+        io::write_all(1, b" finished");
+    } else {
+        io::write_all(1, b" refused");
+        count(number);
+    }
+    count(n % HALF);
+}
+
+fn print_until(line: &[u8], end: usize) {
+    if end <= line.len() {
+        io::write_all(1, &line[..end]);
+    }
+}
+
+fn all(out: &[u32]) {
+    for i in 0..out.len() {
+        word(out[i]);
+    }
+}
+
+fn word(n: u32) {
+    count(n as u64);
+}
+
+fn count(n: u64) {
+    io::write_all(1, b" ");
+    io::print_decimal(1, n);
+}
+
+fn end() {
+    io::write_all(1, b"\n");
+}
+
+// By its bits. None that is printed is a NaN.
+fn float(v: f64) {
+    io::write_all(1, b" ");
+    io::print_hex(1, bits::of(v), 16);
 }

@@ -10,9 +10,9 @@ use Rattle.rule.specs.Whole.{Lent, lent}
 use Rattle.layout.specs.declared.Layout.{Layout}
 use Rattle.layout.specs.Layout.{scratchOf}
 use Rattle.lent.specs.Fine.{Ready}
-use Rattle.lent.specs.Keeps.{Keeps}
+use Rattle.ending.specs.Keeps.{Keeps}
 use Rattle.lent.proofs.Points.{length-points, placed-points}
-use Rattle.lent.proofs.Whole.{keeps-from}
+use Rattle.ending.proofs.Whole.{keeps-from}
 use Rattle.links.specs.Ring.{allUnmarked}
 use Rattle.links.proofs.Rings.{line-all}
 use Rattle.simplify_vw.specs.Calls.{Given, Ran}

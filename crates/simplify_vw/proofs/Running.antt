@@ -13,8 +13,8 @@ use Rattle.rule.specs.Grid.{Point, positive}
 use Rattle.rule.specs.Plain.{Candidate, indices, all, next, areaAt, indexRule}
 use Rattle.rule.specs.Slots.{nth, leftAfter}
 use Rattle.rule.specs.SlotCalls.{lessBy}
-use Rattle.rule.proofs.Removals.{next-nth, finished-again, left-zero, left-suc, left-last}
-use Rattle.rule.proofs.Tolerance.{point-all, point-index}
+use Rattle.laws.proofs.Removals.{next-nth, finished-again, left-zero, left-suc, left-last}
+use Rattle.laws.proofs.Tolerance.{point-all, point-index}
 use Rattle.layout.specs.declared.Layout.{Layout}
 use Rattle.layout.specs.Layout.{Room}
 use Rattle.vscore.specs.Scale.{halves}

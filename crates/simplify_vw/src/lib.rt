@@ -11,7 +11,7 @@ ghost use Rattle.rule.specs.Whole.{lent, Thins};
 ghost use Rattle.layout.specs.Layout.{Room};
 ghost use Rattle.layout.specs.Points.{HasPoints};
 ghost use Rattle.lent.specs.Fine.{Ready};
-ghost use Rattle.lent.specs.Keeps.{Keeps};
+ghost use Rattle.ending.specs.Keeps.{Keeps};
 ghost use Rattle.simplify_vw.specs.Rule.{ofRule, keepsAll};
 ghost use Rattle.simplify_vw.specs.Calls.{Ran};
 use layout::Layout;
@@ -67,7 +67,7 @@ fn simplify(
     ensures { λ r. ⌜ Thins (ofRule rule) (now (x .entry)) (now (y .entry)) tolerance (lent (now (out .entry)) (now (floats .entry)) (now (words .entry)))
         (ofThinned r) (lent (now (out .exit)) (now (floats .exit)) (now (words .exit))) ⌝ }
 {
-    match lent::thin_reason(x, y, tolerance, out.len(), floats, words) {
+    match reasons::thin_reason(x, y, tolerance, out.len(), floats, words) {
         Outcome::Refused(reason) => Thinned::Refused(reason),
         Outcome::Done => Thinned::Kept(visvalingam_indices(
             rule,
@@ -97,7 +97,7 @@ fn visvalingam_indices(
 {
     let m = Layout::scratch(x.len());
     remove_all(rule, x, y, floats, words, m, tolerance);
-    lent::finish(x.len(), out, floats, words)
+    ending::finish(x.len(), out, floats, words)
 }
 
 // Links the points and makes every removal.

@@ -1,7 +1,4 @@
-pub mod Demoting
-pub mod Moving
-pub mod Running
 pub mod Thinning
-pub mod Table
+pub mod Ending
 pub mod Whole
 pub mod Ready

@@ -8,10 +8,10 @@ use lib.ListN.{length}
 use lib.Ieee.{Float}
 use Rattle.rule.specs.Reasons.{Row, lineRows, ringTable, ringNotClosed, polygonReason}
 use Rattle.rule.specs.Whole.{LentRings}
-use Rattle.lent.specs.Verdict.{memoryRows}
+use Rattle.reasons.specs.Verdict.{memoryRows}
 use Rattle.lent.proofs.Rows.{none-applies, room-for, ready-of}
+use Rattle.ring_reasons.proofs.Table.{table-cuts}
 use Rattle.simplify_vw_preserve.specs.Whole.{ReadyRings}
-use Rattle.simplify_vw_preserve.proofs.Table.{table-cuts}
 
 pub polygon-ready : (us vs : List Float) (t : Float) (table : List ℕ) (m : LentRings)
     → polygonReason us vs t table (length (m .line .out)) (length (m .ringOut)) (length (m .line .floats)) (length (m .line .words)) ≡ 0 → ReadyRings us vs t table m

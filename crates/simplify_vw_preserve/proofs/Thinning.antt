@@ -1,19 +1,17 @@
--- The loops over the ring table: all rings linked, and all rings thinned. Assumes nothing.
+-- All rings linked, and all rings thinned. Assumes nothing.
 use mathlib.Core.Path.{_≡_, refl, sym, ap, _∙_, subst}
 use mathlib.Core.Bool.{true, false}
 use mathlib.Core.List.{List, [], _∷_, _++_, append-assoc, append-nil}
 use mathlib.Core.Logic.{inl}
 use Prim.Native.Nat.{ℕ, _+_, _*_, _-_, _≤_, _<_}
-use native.Mathlib.Numerals.{add-one}
 use native.Mathlib.Omega.{arith}
-use lib.ListN.{length, drop, getD, length-append, length-drop}
-use lib.Seq.{drop-cons}
+use lib.ListN.{length, drop, getD, length-drop}
 use lib.Ieee.{Float}
 use Rattle.rule.specs.Grid.{Point, isFinite, positive}
 use Rattle.rule.specs.Plain.{indices, leave}
 use Rattle.rule.specs.Preserve.{Minima, ringRemovals, ringsRemovals, leaveEach, preserveRemoved, preserve}
-use Rattle.rule.specs.Rings.{rises, lastOr, ringsFrom}
-use Rattle.rule.proofs.Rings.{rises-cons, rises-last, preserve-all}
+use Rattle.rule.specs.Rings.{ringsFrom}
+use Rattle.laws.proofs.Rings.{preserve-all}
 use Rattle.layout.specs.declared.Layout.{Layout}
 use Rattle.layout.specs.Layout.{Room}
 use Rattle.layout.specs.Points.{PlacedIn}
@@ -21,58 +19,12 @@ use Rattle.links.specs.Ring.{Rings}
 use Rattle.links.specs.Calls.{Joined}
 use Rattle.links.proofs.Rings.{rings-same, rings-append}
 use Rattle.thin.specs.State.{most}
-use Rattle.simplify_vw_preserve.specs.State.{Setting, leftIn, Ended, Outside}
-use Rattle.simplify_vw_preserve.specs.Calls.{RingDone, Cuts, LinkedAll, Wrapped}
-use Rattle.simplify_vw_preserve.proofs.Running.{outside-self, outside-then}
-
--- ---- the table
-
--- `past` are the ends of k rings, which end at lo, and the others rise from there to n
-pub record Cut (ends : List ℕ) (n : ℕ) (past : List ℕ) (k lo : ℕ) : Type 0 where
-  pub number : length past ≡ k
-  pub cut : past ++ drop k ends ≡ ends
-  pub rise : rises lo (drop k ends) ≡ true
-  pub last : lastOr lo (drop k ends) ≡ n
-
-pub cut-start : {ends : List ℕ} {n : ℕ} → Cuts n ends → Cut ends n [] 0 0
-cut-start c = record { number = refl; cut = refl; rise = c .rise; last = c .last }
-
-module _ {ends : List ℕ} {n : ℕ} {past : List ℕ} {k lo : ℕ} (c : Cut ends n past k lo) where
-  pub cut-end : length ends ≤ k → (past ≡ ends) × (lo ≡ n)
-  cut-end h = go (drop k ends) (omega (arith, length-drop k ends)) (c .cut) (c .last)
-    where
-      go : (l : List ℕ) → length l ≤ 0 → past ++ l ≡ ends → lastOr lo l ≡ n → (past ≡ ends) × (lo ≡ n)
-      go [] g e f = (sym (append-nil past) ∙ e, f)
-      go (x ∷ l) g e f = absurd (omega arith)
-
-  module _ (h : k < length ends) where
-    -- the next ring ends at hi
-    abbrev hi : ℕ
-    hi = getD ends k 0
-
-    pub next-is : drop k ends ≡ getD ends k 0 ∷ drop (k + 1) ends
-    next-is = drop-cons ends k 0 h ∙ ap (λ (j : ℕ). getD ends k 0 ∷ drop j ends) (sym (add-one k))
-
-    pub next-rings : ringsFrom lo (drop k ends) ≡ indices lo (getD ends k 0 - lo) ∷ ringsFrom (getD ends k 0) (drop (k + 1) ends)
-    unfolding ringsFrom
-    next-rings = ap (ringsFrom lo) next-is
-
-    next-rises : (lo ≤ hi) × (rises hi (drop (k + 1) ends) ≡ true)
-    next-rises = rises-cons lo hi (drop (k + 1) ends) (subst (λ (l : List ℕ). rises lo l ≡ true) next-is (c .rise))
-
-    pub next-cut : Cut ends n (past ++ (getD ends k 0 ∷ [])) (k + 1) (getD ends k 0)
-    next-cut = record {
-      number = length-append past (hi ∷ []) ∙ ap (λ (j : ℕ). j + 1) (c .number);
-      cut = append-assoc past (hi ∷ []) (drop (k + 1) ends) ∙ ap (λ (l : List ℕ). past ++ l) (sym next-is) ∙ c .cut;
-      rise = next-rises .1;
-      last = ap (λ (l : List ℕ). lastOr lo l) (sym next-is) ∙ c .last;
-    }
-
-    pub next-from : lo ≤ getD ends k 0
-    next-from = next-rises .0
-
-    pub next-to : getD ends k 0 ≤ n
-    next-to = omega (arith, rises-last hi (drop (k + 1) ends) (next-rises .1), next-cut .last)
+use Rattle.thin_ring.specs.State.{Setting, leftIn, Ended, Outside}
+use Rattle.thin_ring.specs.Calls.{RingDone}
+use Rattle.thin_ring.proofs.Running.{outside-self, outside-then}
+use Rattle.ring_reasons.specs.Table.{Cuts}
+use Rattle.ring_reasons.proofs.Cut.{Cut, cut-start, cut-end, next-is, next-rings, next-cut, next-from, next-to}
+use Rattle.simplify_vw_preserve.specs.Calls.{LinkedAll, Wrapped}
 
 -- one ring more
 ring-more : (ws : List ℕ) (m : Layout) (lo hi : ℕ) (past : List ℕ) (done : List (List ℕ)) (ks : List ℕ)

@@ -18,14 +18,16 @@ use Rattle.rule.proofs.Settled.{call-done}
 use Rattle.layout.specs.declared.Layout.{Layout}
 use Rattle.layout.specs.Layout.{scratchOf}
 use Rattle.lent.specs.Fine.{Ready}
-use Rattle.lent.specs.Keeps.{Keeps}
+use Rattle.ending.specs.Keeps.{Keeps}
 use Rattle.lent.proofs.Points.{length-points, placed-points}
-use Rattle.lent.proofs.Whole.{keeps-from}
+use Rattle.ending.proofs.Whole.{keeps-from}
 use Rattle.links.specs.Ring.{allUnmarked, Rings}
 use Rattle.links.proofs.Rings.{rings-all}
-use Rattle.simplify_vw_preserve.specs.Calls.{minima, Cuts, Wrapped, countBelow}
+use Rattle.thin_ring.specs.Calls.{minima}
+use Rattle.ring_reasons.specs.Table.{Cuts}
+use Rattle.simplify_vw_preserve.specs.Calls.{Wrapped, countBelow}
 use Rattle.simplify_vw_preserve.specs.Whole.{KeepsRings}
-use Rattle.simplify_vw_preserve.proofs.Table.{ends-kept}
+use Rattle.simplify_vw_preserve.proofs.Ending.{ends-kept}
 
 pub rings-done : {us vs : List Float} {t : Float} {table : List ℕ} {r : ℕ} {m m′ : LentRings}
     → polygonReason us vs t table (length (m .line .out)) (length (m .ringOut)) (length (m .line .floats)) (length (m .line .words)) ≡ 0

@@ -8,8 +8,8 @@ use Rattle.rule.specs.Grid.{points}
 use Rattle.rule.specs.Rings.{joined, endsFrom, polygonRule}
 use Rattle.rule.specs.Whole.{over, LentRings}
 use Rattle.lent.specs.Fine.{Ready}
-use Rattle.lent.specs.Keeps.{Keeps}
-use Rattle.simplify_vw_preserve.specs.Calls.{Cuts}
+use Rattle.ending.specs.Keeps.{Keeps}
+use Rattle.ring_reasons.specs.Table.{Cuts}
 
 -- a polygon to be thinned that no reason leaves out
 pub record ReadyRings (us vs : List Float) (t : Float) (table : List ℕ) (m : LentRings) : Type 0 where

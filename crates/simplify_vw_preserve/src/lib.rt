@@ -1,8 +1,5 @@
 // The preserving rule: a line, and the rings of a polygon, each beside the earlier ones already thinned and the later ones whole.
 // Each statement settles its call: rule's `thins-settled` and `rings-settled`.
-mod moves;
-mod reasons;
-
 ghost use mathlib.Core.Path.{_≡_};
 ghost use mathlib.Core.List.{map};
 ghost use Prim.Native.Nat.{_≤_};
@@ -15,9 +12,11 @@ ghost use Rattle.rule.specs.Whole.{over, lent, lentRings, Thins, ThinsRings};
 ghost use Rattle.layout.specs.Layout.{Room};
 ghost use Rattle.layout.specs.Points.{HasPoints};
 ghost use Rattle.lent.specs.Fine.{Ready};
-ghost use Rattle.lent.specs.Keeps.{Keeps};
+ghost use Rattle.ending.specs.Keeps.{Keeps};
 ghost use Rattle.links.specs.Words.{HasLinks};
-ghost use Rattle.simplify_vw_preserve.specs.Calls.{minima, Cuts, LinkedAll, Wrapped, countBelow};
+ghost use Rattle.thin_ring.specs.Calls.{minima};
+ghost use Rattle.ring_reasons.specs.Table.{Cuts};
+ghost use Rattle.simplify_vw_preserve.specs.Calls.{LinkedAll, Wrapped, countBelow};
 ghost use Rattle.simplify_vw_preserve.specs.Whole.{ReadyRings, KeepsRings};
 use layout::Layout;
 use rule::Outcome;
@@ -35,7 +34,7 @@ pub fn simplify_vw_preserve(
     ensures { λ r. ⌜ Thins lineRule (now (x .entry)) (now (y .entry)) tolerance (lent (now (out .entry)) (now (floats .entry)) (now (words .entry)))
         (ofThinned r) (lent (now (out .exit)) (now (floats .exit)) (now (words .exit))) ⌝ }
 {
-    match lent::thin_reason(x, y, tolerance, out.len(), floats, words) {
+    match reasons::thin_reason(x, y, tolerance, out.len(), floats, words) {
         Outcome::Refused(reason) => Thinned::Refused(reason),
         Outcome::Done => Thinned::Kept(preserve_line(x, y, tolerance, out, floats, words)),
     }
@@ -56,7 +55,7 @@ pub fn simplify_vw_preserve_polygon(
         (lentRings (now (out .entry)) (now («ring_out» .entry)) (now (floats .entry)) (now (words .entry)))
         (ofThinned r) (lentRings (now (out .exit)) (now («ring_out» .exit)) (now (floats .exit)) (now (words .exit))) ⌝ }
 {
-    match reasons::polygon_reason(
+    match ring_reasons::polygon_reason(
         x,
         y,
         tolerance,
@@ -96,7 +95,7 @@ fn preserve_line(
     let m = Layout::scratch(x.len());
     let rings = [x.len() as u32];
     vwp_wrapper(x, y, &rings, floats, words, m, 2, 4, tolerance);
-    lent::finish(x.len(), out, floats, words)
+    ending::finish(x.len(), out, floats, words)
 }
 
 // Lists what the rule keeps of the rings, with their table, and gives how many.
@@ -118,7 +117,7 @@ fn preserve_rings(
     let m = Layout::scratch(x.len());
     vwp_wrapper(x, y, rings, floats, words, m, 4, 5, tolerance);
     list_ends(words, m, rings, ring_out);
-    lent::finish(x.len(), out, floats, words)
+    ending::finish(x.len(), out, floats, words)
 }
 
 // geo's wrapper: thins the rings in the table's order. They share one memory, so that each sees the others.
@@ -146,7 +145,7 @@ fn vwp_wrapper(
     let mut k = 0;
     while k < rings.len() {
         let hi = rings[k] as usize;
-        moves::visvalingam_preserve(x, y, floats, words, m, lo, hi, first, second, tolerance);
+        thin_ring::visvalingam_preserve(x, y, floats, words, m, lo, hi, first, second, tolerance);
         lo = hi;
         k += 1;
     }

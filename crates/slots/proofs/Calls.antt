@@ -15,11 +15,11 @@ use Rattle.rule.specs.Reasons.{firstOffGrid, refusal, areaShort, noSuchSlot, sl
 use Rattle.rule.specs.Whole.{Call, over}
 use Rattle.rule.specs.SlotCalls.{Opens, Steps, Reads}
 use Rattle.rule.proofs.Parts.{unchanged}
-use Rattle.lent.specs.Verdict.{verdict}
-use Rattle.lent.proofs.Verdict.{refused-call, refused-before}
-use Rattle.slots.specs.Rep.{Rep}
-use Rattle.slots.specs.Parts.{StepsPart, ReadsPart}
-use Rattle.slots.proofs.Reasons.{slot-opened, read-then}
+use Rattle.reasons.specs.Verdict.{verdict}
+use Rattle.reasons.proofs.Verdict.{refused-call, refused-before}
+use Rattle.part.specs.Rep.{Rep}
+use Rattle.part.specs.Parts.{StepsPart, ReadsPart}
+use Rattle.slot_reasons.proofs.Reasons.{slot-opened, read-then}
 
 -- ---- refused
 

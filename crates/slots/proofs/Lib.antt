@@ -1,11 +1,3 @@
-pub mod Places
-pub mod Reasons
 pub mod Lending
-pub mod Holding
-pub mod Filling
-pub mod Listing
-pub mod Advancing
 pub mod Calls
 pub mod Settled
-pub mod History
-pub mod Since

@@ -13,7 +13,7 @@ use Rattle.rule.specs.Reasons.{openReason}
 use Rattle.rule.specs.SlotCalls.{Clears, Opens, Steps, Reads, Closes}
 use Rattle.rule.proofs.Settled.{OpenSettled, StepSettled, ReadSettled}
 use Rattle.rule.proofs.Settled as rule
-use Rattle.slots.specs.Rep.{Rep}
+use Rattle.part.specs.Rep.{Rep}
 
 pub clear-settled : (a : Area) (r s : Outcome) (p q : Area) → Clears a (ofOutcome r) p → Clears a (ofOutcome s) q → (r ≡ s) × (p ≡ q)
 clear-settled = rule.clear-settled

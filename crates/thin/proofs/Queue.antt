@@ -1,36 +1,37 @@
 -- The queue of scores: put to, popped from, and its first live score is the rule's candidate. Assumes nothing.
-use mathlib.Core.Path.{_≡_, refl, sym, ap, _∙_, subst}
+use mathlib.Core.Path.{_≡_, refl, sym, _∙_, subst}
 use mathlib.Core.Bool.{Bool, true, false, _&&_, and-false}
 use mathlib.Core.List.{List, [], _∷_}
 use mathlib.Core.Logic.{_⊎_, inl, inr, ⊎-elim}
 use mathlib.Core.Option.{none, some}
 use Prim.Native.Nat.{ℕ, suc, _+_, _*_, _≤_, _<_}
-use native.Mathlib.Numerals.{add-one}
 use native.Mathlib.Omega.{arith}
 use lib.Dec.{eqb}
 use lib.ListN.{getD}
-use lib.Ieee.{Float, nan}
+use lib.Ieee.{Float}
 use borrow.Author.Tests.{eqb-true, eq-eqb, ne-eqb, le-ltb}
 use Rattle.rule.specs.Plain.{Candidate, before, least}
-use Rattle.rule.proofs.Kept.{Up}
-use Rattle.rule.proofs.Least.{First, least-is}
+use Rattle.laws.proofs.Kept.{Up}
+use Rattle.laws.proofs.Least.{First, least-is}
 use Rattle.layout.specs.declared.Layout.{Layout}
 use Rattle.vscore.specs.declared.VScore.{VScore}
 use Rattle.vscore.specs.Scale.{Scale, Faithful}
+use Rattle.scores.specs.Memory.{scoreAt}
+use Rattle.scores.specs.Scores.{Proper, Le}
+use Rattle.scores.proofs.Scores.{key-is}
+use Rattle.scores.proofs.Memory.{scores-same}
 use Rattle.heap.specs.Order.{tick, count}
-use Rattle.heap.specs.Memory.{scoreAt, Framed}
-use Rattle.heap.specs.Heap.{Proper, Le, Pushed, Popped}
+use Rattle.heap.specs.Heap.{Pushed, Popped}
 use Rattle.heap.proofs.Order.{count-same, heap-same, counted}
-use Rattle.heap.proofs.Scores.{first, key-is, pushed-all, popped-all}
-use Rattle.heap.proofs.Memory.{scores-same, framed-more}
+use Rattle.heap.proofs.Heap.{first, pushed-all, popped-all}
 use Rattle.links.specs.Ring.{Triple, Live}
 use Rattle.links.proofs.Tests.{both}
 use Rattle.links.proofs.Neighbours.{then-first, then-further}
 use Rattle.links.proofs.Ring.{ring-up, alive-triple}
-use Rattle.thin.specs.Plot.{Points, ScoreOf, ScoredAs, scored, missing}
-use Rattle.thin.specs.Queue.{View, RingOf, triple, Queue, QueueOf, Unchanged, PutIs, pushes, full, nothing, candidateOf}
-use Rattle.thin.specs.declared.Scored.{Scored}
-use Rattle.thin.specs.declared.Scored.the-variants.{Score, Missing}
+use Rattle.scoring.specs.declared.Scored.{Scored}
+use Rattle.scoring.specs.Plot.{Points, ScoreOf, ScoredAs, scored, missing}
+use Rattle.scoring.specs.Putting.{PutIs, pushes, full, nothing}
+use Rattle.thin.specs.Queue.{View, RingOf, triple, Queue, QueueOf, candidateOf}
 use Rattle.thin.proofs.Candidates.{mid-triple, triple-mid}
 
 -- ---- the test of a triple
@@ -114,38 +115,6 @@ module _ {σ : Scale} {P : VScore → Type 0} {fs : List Float} {ws : List ℕ} 
       (subst (λ (x : List Float). Queue σ P x ws′ m n (And All (m .points) a b c)) (sym (u .floats))
       (subst (λ (x : List ℕ). Queue σ P fs x m n (And All (m .points) a b c)) (sym (u .words))
       (queue-less (λ l d r. ⊎-elim (λ x. x) (λ x. absurd (h (x .0)))) q)))
-
--- ---- what a put does and changes
-
-module _ {fs : List Float} {ws : List ℕ} {m : Layout} {len : ℕ} where
-  pub put-full : (r : Scored) → m .capacity ≤ len → PutIs fs ws m len fs ws len r
-  put-full (Score s) h = full h (record { floats = refl; words = refl; count = refl })
-  put-full Missing h = nothing (record { floats = refl; words = refl; count = refl })
-
-  pub put-missing : {r : Scored} → r ≡ Missing → PutIs fs ws m len fs ws len r
-  put-missing e = subst (PutIs fs ws m len fs ws len) (sym e) (nothing (record { floats = refl; words = refl; count = refl }))
-
-  pub put-pushes : {r : Scored} {s : VScore} → r ≡ Score s → len < m .capacity → {fs′ : List Float} {ws′ : List ℕ} → Pushed fs ws m len s fs′ ws′
-      → PutIs fs ws m len fs′ ws′ (len + 1) r
-  put-pushes e l {fs′} {ws′} p = subst (PutIs fs ws m len fs′ ws′ (len + 1)) (sym e) (pushes (record { room = l; pushed = p; count = add-one len }))
-
-module _ {fs : List Float} {ws : List ℕ} {m : Layout} {len : ℕ} {fs′ : List Float} {ws′ : List ℕ} {k : ℕ} where
-  unchanged-framed : Unchanged fs ws len fs′ ws′ k → Framed fs ws m (m .capacity) fs′ ws′
-  unchanged-framed u = record {
-    floats = λ i h. ap (λ (x : List Float). getD x i nan) (u .floats);
-    before = λ i h. ap (λ (x : List ℕ). getD x i 0) (u .words);
-    after = λ i h. ap (λ (x : List ℕ). getD x i 0) (u .words);
-  }
-
-  pub put-framed : {r : Scored} → PutIs fs ws m len fs′ ws′ k r → Framed fs ws m (m .capacity) fs′ ws′
-  put-framed (pushes p) = framed-more (p .room) (p .pushed .framed)
-  put-framed (full h u) = unchanged-framed u
-  put-framed (nothing u) = unchanged-framed u
-
-  pub put-count : {r : Scored} → PutIs fs ws m len fs′ ws′ k r → len ≤ m .capacity → (k ≤ m .capacity) × (k ≤ suc len)
-  put-count (pushes p) l = (omega (arith, p .count, p .room), omega (arith, p .count))
-  put-count (full h u) l = (omega (arith, u .count), omega (arith, u .count))
-  put-count (nothing u) l = (omega (arith, u .count), omega (arith, u .count))
 
 -- ---- the rule's order
 

@@ -11,26 +11,28 @@ use lib.ListN.{length, getD}
 use lib.Ieee.{Float}
 use Rattle.rule.specs.Grid.{Point, half}
 use Rattle.rule.specs.Plain.{without, areaAt}
-use Rattle.rule.proofs.Kept.{Up}
+use Rattle.laws.proofs.Kept.{Up}
 use Rattle.layout.specs.declared.Layout.{Layout}
 use Rattle.layout.specs.Layout.{Room}
 use Rattle.vscore.specs.declared.VScore.{VScore}
 use Rattle.vscore.specs.Scale.{Faithful}
-use Rattle.heap.specs.Memory.{Framed}
-use Rattle.heap.proofs.Scores.{proper-of}
-use Rattle.heap.proofs.Memory.{framed-then}
+use Rattle.scores.specs.Memory.{Framed}
+use Rattle.scores.proofs.Scores.{proper-of}
+use Rattle.scores.proofs.Memory.{framed-then}
 use Rattle.links.specs.Words.{previousAt, nextAt, unlinked, SameLinks, OnlyLinks}
 use Rattle.links.specs.Ring.{In, Then, Triple, Ring}
 use Rattle.links.proofs.Neighbours.{next-unique, previous-unique, in-old, not-in, bridge, then-old}
 use Rattle.links.proofs.Ring.{ring-in, ring-below, ring-up, previous-is, next-is, is-previous, is-next}
 use Rattle.links.proofs.Memory.{same-from, ring-same, unlinked-only, unlinked-ring}
 use Rattle.layout.specs.Points.{PlacedIn}
-use Rattle.thin.specs.Plot.{priced, Points, ScoreOf, ScoredAs}
-use Rattle.thin.specs.Queue.{View, RingOf, Entry, QueueOf, PutIs, But, Pick}
+use Rattle.scoring.specs.declared.Scored.{Scored}
+use Rattle.scoring.specs.Plot.{priced, Points, ScoreOf, ScoredAs}
+use Rattle.scoring.specs.Putting.{PutIs}
+use Rattle.scoring.proofs.Putting.{put-framed, put-count}
+use Rattle.thin.specs.Queue.{View, RingOf, Entry, QueueOf, But, Pick}
 use Rattle.thin.specs.State.{most, Rep, less, Suits, Removed}
-use Rattle.thin.specs.declared.Scored.{Scored}
 use Rattle.thin.proofs.Candidates.{triple-three, triple-fewer}
-use Rattle.thin.proofs.Queue.{And, queue-less, queue-as, queue-same, queue-put, put-framed, put-count}
+use Rattle.thin.proofs.Queue.{And, queue-less, queue-as, queue-same, queue-put}
 
 -- ---- memory as long has the same room
 

@@ -26,7 +26,7 @@ use Rattle.thin.specs.Plain.{line, LineRep, StepDone}
 use Rattle.thin.specs.declared.Picked.{Picked}
 use Rattle.thin.specs.declared.Picked.the-variants.{Found, Nothing}
 use Rattle.thin.specs.declared.Stepped.the-variants as stepped
-use Rattle.thin.proofs.Scoring.{placed-same}
+use Rattle.scoring.proofs.Scoring.{placed-same}
 
 -- ---- what is chosen
 

@@ -1,4 +1,3 @@
-pub mod Plot
 pub mod Queue
 pub mod State
 pub mod Plain

@@ -3,7 +3,7 @@ use mathlib.Core.Path.{_≡_}
 use mathlib.Core.Bool.{Bool, cond, _&&_}
 use mathlib.Core.List.{List}
 use mathlib.Core.Option.{Option, none, some}
-use Prim.Native.Nat.{ℕ, suc, _≤_, _<_}
+use Prim.Native.Nat.{ℕ, _≤_, _<_}
 use lib.Dec.{eqb}
 use lib.Ieee.{Float, lt}
 use Rattle.rule.specs.Plain.{Candidate, least}
@@ -11,12 +11,11 @@ use Rattle.layout.specs.declared.Layout.{Layout}
 use Rattle.vscore.specs.declared.VScore.{VScore}
 use Rattle.vscore.specs.Score.{candidate}
 use Rattle.vscore.specs.Scale.{Scale, Faithful}
+use Rattle.scores.specs.Memory.{scoreAt, Framed}
+use Rattle.scores.specs.Scores.{Proper}
 use Rattle.heap.specs.Order.{count}
-use Rattle.heap.specs.Memory.{scoreAt, Framed}
-use Rattle.heap.specs.Heap.{Proper, Heap, Pushed}
+use Rattle.heap.specs.Heap.{Heap}
 use Rattle.links.specs.Ring.{In, Triple, Ring, Live}
-use Rattle.thin.specs.declared.Scored.{Scored}
-use Rattle.thin.specs.declared.Scored.the-variants.{Score, Missing}
 use Rattle.thin.specs.declared.Picked.{Picked}
 use Rattle.thin.specs.declared.Picked.the-variants.{Found, Nothing}
 
@@ -53,24 +52,6 @@ pub record Queue (σ : Scale) (P : VScore → Type 0) (fs : List Float) (ws : Li
 
 abbrev pub QueueOf : View → List Float → List ℕ → Layout → ℕ → (ℕ → ℕ → ℕ → Type 0) → Type 0
 QueueOf v fs ws m len All = Queue (v .scale) (Entry v) fs ws m len All
-
--- ---- a score put on
-
-pub record Unchanged (fs : List Float) (ws : List ℕ) (len : ℕ) (fs′ : List Float) (ws′ : List ℕ) (r : ℕ) : Type 0 where
-  pub floats : fs′ ≡ fs
-  pub words : ws′ ≡ ws
-  pub count : r ≡ len
-
-pub record Put (fs : List Float) (ws : List ℕ) (m : Layout) (len : ℕ) (s : VScore) (fs′ : List Float) (ws′ : List ℕ) (r : ℕ) : Type 0 where
-  pub room : len < m .capacity
-  pub pushed : Pushed fs ws m len s fs′ ws′
-  pub count : r ≡ suc len
-
--- pushed, if there is one and room for it
-pub data PutIs (fs : List Float) (ws : List ℕ) (m : Layout) (len : ℕ) (fs′ : List Float) (ws′ : List ℕ) (r : ℕ) : Scored → Type 0 where
-  pushes : {s : VScore} → Put fs ws m len s fs′ ws′ r → PutIs fs ws m len fs′ ws′ r (Score s)
-  full : {s : VScore} → m .capacity ≤ len → Unchanged fs ws len fs′ ws′ r → PutIs fs ws m len fs′ ws′ r (Score s)
-  nothing : Unchanged fs ws len fs′ ws′ r → PutIs fs ws m len fs′ ws′ r Missing
 
 -- ---- a score picked
 

@@ -11,11 +11,11 @@ use Rattle.rule.specs.Plain.{indices, without, areaAt}
 use Rattle.layout.specs.declared.Layout.{Layout}
 use Rattle.vscore.specs.declared.VScore.{VScore}
 use Rattle.vscore.specs.Scale.{Scale, Faithful}
-use Rattle.heap.specs.Memory.{Framed}
+use Rattle.scores.specs.Memory.{Framed}
 use Rattle.links.specs.Ring.{Triple}
 use Rattle.links.specs.Words.{unlinked}
 use Rattle.layout.specs.Points.{PlacedIn}
-use Rattle.thin.specs.Plot.{priced}
+use Rattle.scoring.specs.Plot.{priced}
 use Rattle.thin.specs.Queue.{View, RingOf, QueueOf, Pick}
 
 -- at most 3 (n - 2) scores are ever pushed

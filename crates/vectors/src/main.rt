@@ -6,6 +6,7 @@ mod list;
 
 use list::Vector;
 use rule::Reason;
+use rule::Scratch;
 use rule::Thinned;
 
 fn main() {
@@ -41,7 +42,7 @@ fn replay(text: &[u8], call: u32) {
     while at < text.len() {
         line = more(line);
         tally = replay_line(tally, text, at, line, call);
-        at = list::next_line(text, at);
+        at = numbers::next_line(text, at);
     }
     report(call, tally);
 }
@@ -61,18 +62,18 @@ fn agrees(text: &[u8], v: Vector) -> bool {
     let mut rings = held::table();
     let mut kept = held::indices();
     let mut kept_rings = held::table();
-    let tolerance = list::read_number(text, v.next);
-    let at_y = list::read_coordinates(text, tolerance.next, v.xs, &mut x);
-    let at_rings = list::read_coordinates(text, at_y, v.ys, &mut y);
-    let at_kept = list::read_indices(text, at_rings, v.rings, &mut rings);
-    let at_kept_rings = list::read_indices(text, at_kept, v.kept(), &mut kept);
-    let end = list::read_indices(text, at_kept_rings, v.kept_rings(), &mut kept_rings);
-    if !list::is_end(text, end) {
+    let tolerance = numbers::read_number(text, v.next);
+    let at_y = numbers::read_coordinates(text, tolerance.next, v.xs, &mut x);
+    let at_rings = numbers::read_coordinates(text, at_y, v.ys, &mut y);
+    let at_kept = numbers::read_indices(text, at_rings, v.rings, &mut rings);
+    let at_kept_rings = numbers::read_indices(text, at_kept, v.kept(), &mut kept);
+    let end = numbers::read_indices(text, at_kept_rings, v.kept_rings(), &mut kept_rings);
+    if !numbers::is_end(text, end) {
         return false;
     }
     leaves(
         v,
-        list::float_of(tolerance.value),
+        numbers::float_of(tolerance.value),
         &x,
         &y,
         &rings,
@@ -106,20 +107,84 @@ fn leaves(
         &mut floats,
         &mut words,
     );
-    if !held::is_answer(got, v.reason, v.number) {
+    if !is_answer(got, v.reason, v.number) {
         return false;
     }
-    if !held::same(&out, kept) {
+    if !same(&out, kept) {
         return false;
     }
-    if !held::same(&ring_out, kept_rings) {
+    if !same(&ring_out, kept_rings) {
         return false;
     }
     let points = v.zeroed();
-    if !held::floats_zeroed(&floats, points) {
+    if !floats_zeroed(&floats, points) {
         return false;
     }
-    held::words_zeroed(&words, points)
+    words_zeroed(&words, points)
+}
+
+// Whether a call answered so: reason 0 and a count, or a reason and its point.
+fn is_answer(got: Thinned, reason: u32, n: u32) -> bool {
+    match got {
+        Thinned::Kept(count) => {
+            if reason != 0 {
+                return false;
+            }
+            count == n
+        }
+        Thinned::Refused(w) => {
+            if numbered::number(w) != reason {
+                return false;
+            }
+            numbered::place(w) == n
+        }
+    }
+}
+
+fn same(a: &[u32], b: &[u32]) -> bool {
+    if a.len() != b.len() {
+        return false;
+    }
+    let mut i = 0;
+    while i < a.len() {
+        if a[i] != b[i] {
+            return false;
+        }
+        i += 1;
+    }
+    true
+}
+
+// Zeros for so many points, and guards after them.
+fn floats_zeroed(s: &[f64], points: u32) -> bool {
+    let end = Scratch::FLOATS * (points as usize);
+    let mut i = 0;
+    while i < s.len() {
+        let v = s[i];
+        if i < end {
+            // +0.0 alone has this reciprocal
+            if 1.0 / v != 1.0 / 0.0 {
+                return false;
+            }
+        } else if v != held::FLOAT_GUARD {
+            return false;
+        }
+        i += 1;
+    }
+    true
+}
+
+fn words_zeroed(s: &[u32], points: u32) -> bool {
+    let end = Scratch::WORDS * (points as usize);
+    let mut i = 0;
+    while i < s.len() {
+        let wanted = if i < end { 0 } else { held::GUARD };
+        if s[i] != wanted {
+            return false;
+        }
+        i += 1;
+    }
+    true
 }
 
 // Lends just the places that the vector says.
@@ -134,13 +199,13 @@ fn lend(
     floats: &mut [f64],
     words: &mut [u32],
 ) -> Thinned {
-    let a = list::least(v.xs, x.len());
-    let b = list::least(v.ys, y.len());
-    let c = list::least(v.rings, rings.len());
-    let d = list::least(v.out, out.len());
-    let e = list::least(v.ring_out, ring_out.len());
-    let f = list::least(v.floats, floats.len());
-    let g = list::least(v.words, words.len());
+    let a = numbers::least(v.xs, x.len());
+    let b = numbers::least(v.ys, y.len());
+    let c = numbers::least(v.rings, rings.len());
+    let d = numbers::least(v.out, out.len());
+    let e = numbers::least(v.ring_out, ring_out.len());
+    let f = numbers::least(v.floats, floats.len());
+    let g = numbers::least(v.words, words.len());
     answer(
         v.call,
         tolerance,

@@ -5,7 +5,7 @@ use Prim.Native.Nat.{_-_, _+_, _*_}
 use native.Mathlib.Omega.{arith}
 use borrow.Author.Needs.{needs}
 use borrow.Author.Tests.{not-true, not-false}
-use Rattle.heap.specs.Order.{children}
+use Rattle.scores.specs.Children.{children}
 use Rattle.heap.proofs.pop.Proof.Sinking.{Down, down-start, down-holds, down-turn, down-end, down-stop, down-rest}
 use Rattle.heap.proofs.pop.Statement.{statement}
 use Rattle.heap.proofs.pop.Tie as tie

@@ -10,10 +10,10 @@ use Rattle.links.proofs.count_below.Statement.{statement}
 use Rattle.links.proofs.count_below.Tie as tie
 
 abbrev Inv-loop : tie.InvT-loop
-Inv-loop words m hi count₀ i₀ count i = Counting (markAt words m) hi i count
+Inv-loop words m hi below₀ i₀ below i = Counting (markAt words m) hi i below
 
 abbrev μ-loop : tie.MeasureT-loop
-μ-loop words m hi count₀ i₀ count i = hi - i
+μ-loop words m hi below₀ i₀ below i = hi - i
 
 loop-holds : tie.Need-loop-holds Inv-loop μ-loop
 loop-holds c = counting-start _ _

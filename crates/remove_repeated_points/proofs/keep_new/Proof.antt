@@ -9,7 +9,7 @@ use Rattle.rule.specs.declared.Outcome.the-variants.{Done}
 use Rattle.rule.specs.Answers.{refusedFor}
 use Rattle.rule.specs.Reasons.{firstOffGrid, repeatReason}
 use Rattle.rule.specs.Whole.{Lists}
-use Rattle.lent.proofs.Verdict.{as-told, accepted, refused-call}
+use Rattle.reasons.proofs.Verdict.{as-told, accepted, refused-call}
 use Rattle.lent.proofs.Rows.{repeat-fine, repeat-room}
 use Rattle.remove_repeated_points.specs.Back.{allNew}
 use Rattle.remove_repeated_points.proofs.Calls.{listed-call}

@@ -4,8 +4,9 @@ use Prim.Native.Nat.{ℕ}
 use lib.Ieee.{Float}
 use borrow.Author.Needs.{needs}
 use Rattle.rule.specs.Grid.{Point}
-use Rattle.lent.proofs.Verdict.{as-told, refused-call}
-use Rattle.lent.proofs.Whole.{thin-accepted, thins-done}
+use Rattle.reasons.proofs.Verdict.{as-told, refused-call}
+use Rattle.reasons.proofs.Ready.{thin-accepted}
+use Rattle.ending.proofs.Whole.{thins-done}
 use Rattle.simplify_vw.specs.Rule.{ofRule}
 use Rattle.simplify_vw.proofs.simplify.Statement.{statement}
 use Rattle.simplify_vw.proofs.simplify.Tie as tie

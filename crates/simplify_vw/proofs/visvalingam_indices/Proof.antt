@@ -1,6 +1,6 @@
 -- `simplify_vw::visvalingam_indices` meets its contract. Assumes nothing.
 use borrow.Author.Needs.{needs}
-use Rattle.lent.proofs.Whole.{runs-fit}
+use Rattle.lent.proofs.Points.{runs-fit}
 use Rattle.simplify_vw.proofs.Calls.{keeps-rule}
 use Rattle.simplify_vw.proofs.visvalingam_indices.Statement.{statement}
 use Rattle.simplify_vw.proofs.visvalingam_indices.Tie as tie

@@ -3,7 +3,8 @@ use Prim.Native.Nat.{_-_}
 use native.Mathlib.Omega.{arith}
 use lib.ListN.{length}
 use borrow.Author.Needs.{needs}
-use Rattle.simplify_vw_preserve.proofs.Thinning.{Linking, next-from, next-to, linking-start, linking-more, linking-end}
+use Rattle.ring_reasons.proofs.Cut.{next-from, next-to}
+use Rattle.simplify_vw_preserve.proofs.Thinning.{Linking, linking-start, linking-more, linking-end}
 use Rattle.simplify_vw_preserve.proofs.link_rings.Statement.{statement}
 use Rattle.simplify_vw_preserve.proofs.link_rings.Tie as tie
 

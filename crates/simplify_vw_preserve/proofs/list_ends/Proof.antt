@@ -3,8 +3,8 @@ use Prim.Native.Nat.{_-_}
 use native.Mathlib.Omega.{arith}
 use lib.ListN.{length}
 use borrow.Author.Needs.{needs}
-use Rattle.simplify_vw_preserve.proofs.Thinning.{next-to}
-use Rattle.simplify_vw_preserve.proofs.Table.{Ending, ending-start, ending-more, ending-end}
+use Rattle.ring_reasons.proofs.Cut.{next-to}
+use Rattle.simplify_vw_preserve.proofs.Ending.{Ending, ending-start, ending-more, ending-end}
 use Rattle.simplify_vw_preserve.proofs.list_ends.Statement.{statement}
 use Rattle.simplify_vw_preserve.proofs.list_ends.Tie as tie
 

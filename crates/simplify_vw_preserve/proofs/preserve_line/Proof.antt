@@ -1,6 +1,6 @@
 -- `simplify_vw_preserve::preserve_line` meets its contract. Assumes nothing.
 use borrow.Author.Needs.{needs}
-use Rattle.lent.proofs.Whole.{runs-fit}
+use Rattle.lent.proofs.Points.{runs-fit}
 use Rattle.simplify_vw_preserve.proofs.Whole.{one-ring, keeps-line}
 use Rattle.simplify_vw_preserve.proofs.preserve_line.Statement.{statement}
 use Rattle.simplify_vw_preserve.proofs.preserve_line.Tie as tie

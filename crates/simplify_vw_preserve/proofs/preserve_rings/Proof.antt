@@ -1,7 +1,7 @@
 -- `simplify_vw_preserve::preserve_rings` meets its contract. Assumes nothing.
 use native.Mathlib.Omega.{arith}
 use borrow.Author.Needs.{needs}
-use Rattle.lent.proofs.Whole.{runs-fit}
+use Rattle.lent.proofs.Points.{runs-fit}
 use Rattle.simplify_vw_preserve.proofs.Whole.{keeps-rings}
 use Rattle.simplify_vw_preserve.proofs.preserve_rings.Statement.{statement}
 use Rattle.simplify_vw_preserve.proofs.preserve_rings.Tie as tie

@@ -1,8 +1,9 @@
 -- `simplify_vw_preserve::simplify_vw_preserve` meets its contract. Assumes nothing.
 use borrow.Author.Needs.{needs}
 use Rattle.rule.specs.Rings.{lineRule}
-use Rattle.lent.proofs.Verdict.{as-told, refused-call}
-use Rattle.lent.proofs.Whole.{thin-accepted, thins-done}
+use Rattle.reasons.proofs.Verdict.{as-told, refused-call}
+use Rattle.reasons.proofs.Ready.{thin-accepted}
+use Rattle.ending.proofs.Whole.{thins-done}
 use Rattle.simplify_vw_preserve.proofs.simplify_vw_preserve.Statement.{statement}
 use Rattle.simplify_vw_preserve.proofs.simplify_vw_preserve.Tie as tie
 

@@ -1,8 +1,8 @@
 -- `simplify_vw_preserve::simplify_vw_preserve_polygon` meets its contract. Assumes nothing.
 use borrow.Author.Needs.{needs}
-use Rattle.lent.proofs.Verdict.{as-told, accepted, refused-call}
-use Rattle.simplify_vw_preserve.proofs.Ready.{polygon-ready}
+use Rattle.reasons.proofs.Verdict.{as-told, accepted, refused-call}
 use Rattle.simplify_vw_preserve.proofs.Whole.{rings-done}
+use Rattle.simplify_vw_preserve.proofs.Ready.{polygon-ready}
 use Rattle.simplify_vw_preserve.proofs.simplify_vw_preserve_polygon.Statement.{statement}
 use Rattle.simplify_vw_preserve.proofs.simplify_vw_preserve_polygon.Tie as tie
 

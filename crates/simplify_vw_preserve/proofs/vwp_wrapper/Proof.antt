@@ -6,8 +6,9 @@ use lib.ListN.{length}
 use borrow.Author.Needs.{needs}
 use borrow.Author.Tests.{not-true, not-false}
 use Rattle.thin.proofs.Removing.{room-as}
-use Rattle.simplify_vw_preserve.specs.Calls.{minima}
-use Rattle.simplify_vw_preserve.proofs.Thinning.{Thinning, next-from, next-to, wrapped-whole, thinning-start, thinning-more, thinning-end}
+use Rattle.thin_ring.specs.Calls.{minima}
+use Rattle.ring_reasons.proofs.Cut.{next-from, next-to}
+use Rattle.simplify_vw_preserve.proofs.Thinning.{Thinning, wrapped-whole, thinning-start, thinning-more, thinning-end}
 use Rattle.simplify_vw_preserve.proofs.vwp_wrapper.Statement.{statement}
 use Rattle.simplify_vw_preserve.proofs.vwp_wrapper.Tie as tie
 

@@ -8,8 +8,8 @@ use Rattle.rule.specs.Answers.{ofOutcome}
 use Rattle.rule.specs.Area.{Area, area}
 use Rattle.rule.specs.Reasons.{slotReason}
 use Rattle.rule.proofs.Settled.{call-done}
-use Rattle.lent.proofs.Verdict.{accepted, refused-call}
-use Rattle.slots.proofs.Reasons.{Opened, slot-opened, below, long-enough}
+use Rattle.reasons.proofs.Verdict.{accepted, refused-call}
+use Rattle.slot_reasons.proofs.Reasons.{Opened, slot-opened, below, long-enough}
 use Rattle.slots.proofs.Lending.{closed}
 use Rattle.slots.proofs.close.Statement.{statement}
 use Rattle.slots.proofs.close.Tie as tie

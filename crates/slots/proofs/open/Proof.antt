@@ -10,10 +10,10 @@ use Rattle.rule.specs.Plain.{all}
 use Rattle.rule.specs.Answers.{ofOutcome}
 use Rattle.rule.specs.Area.{Area, area}
 use Rattle.rule.specs.Reasons.{firstOffGrid, firstOf, lineRows, openReason}
-use Rattle.lent.proofs.Verdict.{accepted}
+use Rattle.reasons.proofs.Verdict.{accepted}
 use Rattle.lent.proofs.Rows.{line-fine, line-finite}
-use Rattle.slots.specs.Rep.{Rep}
-use Rattle.slots.proofs.Reasons.{HasSlot, open-has-slot, below, long-enough}
+use Rattle.part.specs.Rep.{Rep}
+use Rattle.slot_reasons.proofs.Reasons.{HasSlot, open-has-slot, below, long-enough}
 use Rattle.slots.proofs.Lending.{lent-floats, lent-words, back-only-part, on-part}
 use Rattle.slots.proofs.Calls.{open-refused, open-done}
 use Rattle.slots.proofs.open.Statement.{statement}

@@ -7,9 +7,9 @@ use borrow.Author.Needs.{needs}
 use Rattle.rule.specs.Answers.{ofOutcome, ofListing}
 use Rattle.rule.specs.Area.{Area, area}
 use Rattle.rule.specs.Reasons.{slotReason}
-use Rattle.lent.proofs.Verdict.{accepted}
-use Rattle.slots.specs.Parts.{ReadsPart}
-use Rattle.slots.proofs.Reasons.{Opened, slot-opened, below, long-enough}
+use Rattle.reasons.proofs.Verdict.{accepted}
+use Rattle.part.specs.Parts.{ReadsPart}
+use Rattle.slot_reasons.proofs.Reasons.{Opened, slot-opened, below, long-enough}
 use Rattle.slots.proofs.Lending.{lent-part}
 use Rattle.slots.proofs.Calls.{read-refused, read-done}
 use Rattle.slots.proofs.read.Statement.{statement}

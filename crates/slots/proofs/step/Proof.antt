@@ -7,9 +7,9 @@ use borrow.Author.Needs.{needs}
 use Rattle.rule.specs.Answers.{ofOutcome, ofStep}
 use Rattle.rule.specs.Area.{Area, area}
 use Rattle.rule.specs.Reasons.{slotReason}
-use Rattle.lent.proofs.Verdict.{accepted}
-use Rattle.slots.specs.Parts.{StepsPart}
-use Rattle.slots.proofs.Reasons.{HasSlot, slot-opened, below, long-enough}
+use Rattle.reasons.proofs.Verdict.{accepted}
+use Rattle.part.specs.Parts.{StepsPart}
+use Rattle.slot_reasons.proofs.Reasons.{HasSlot, slot-opened, below, long-enough}
 use Rattle.slots.proofs.Lending.{back-only-part, on-part}
 use Rattle.slots.proofs.Calls.{step-refused, step-done}
 use Rattle.slots.proofs.step.Statement.{statement}

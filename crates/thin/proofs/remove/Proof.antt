@@ -3,7 +3,7 @@ use mathlib.Core.Path.{refl, _∙_}
 use native.Mathlib.Omega.{arith}
 use borrow.Author.Needs.{needs}
 use Rattle.thin.proofs.Removing.{room-as, removed-law}
-use Rattle.thin.proofs.Scoring.{scored-demoted}
+use Rattle.scoring.proofs.Scoring.{scored-demoted}
 use Rattle.thin.proofs.remove.Statement.{statement}
 use Rattle.thin.proofs.remove.Tie as tie
 

@@ -11,13 +11,16 @@ use Rattle.layout.specs.declared.Layout.{Layout}
 use Rattle.vscore.specs.declared.VScore.{VScore}
 use Rattle.vscore.specs.Score.{sooner}
 use Rattle.vscore.specs.Scale.{Scale, Faithful}
+use Rattle.scores.specs.Memory.{Holds, scoreAt, Framed}
+use Rattle.scores.specs.Scores.{Proper, Le}
+use Rattle.scores.proofs.Scores.{le-trans, sooner-true, sooner-false}
+use Rattle.scores.proofs.Memory.{holds-at, framed-self, framed-then}
 use Rattle.heap.specs.Order.{parent, upd, tick, count}
-use Rattle.heap.specs.Memory.{Holds, scoreAt, Framed}
-use Rattle.heap.specs.Heap.{Proper, Le, Heap, AllProper, Among, Pushed}
+use Rattle.heap.specs.Heap.{Heap, AllProper, Among, Pushed}
 use Rattle.heap.proofs.Places.{upd-same, upd-other, upd-by, all-move, count-past, count-move}
 use Rattle.heap.proofs.Holes.{Hole, Above, rest, up-hole, up-above, last-hole, last-above}
-use Rattle.heap.proofs.Scores.{le-trans, sooner-true, sooner-false, among-all}
-use Rattle.heap.proofs.Memory.{holds-at, framed-self, framed-then, Stored, stored-floats, stored-words, stored-at, stored-framed}
+use Rattle.heap.proofs.Heap.{among-all}
+use Rattle.heap.proofs.Stored.{Stored, stored-floats, stored-words, stored-at, stored-framed}
 
 -- with s at j the scores are the old ones and s; all but s are in order, and s is not after what is below it
 pub record Up (fs : List Float) (ws : List ℕ) (m : Layout) (len : ℕ) (s : VScore) (fs′ : List Float) (ws′ : List ℕ) (j : ℕ) : Type 0 where

@@ -12,9 +12,9 @@ use Rattle.layout.specs.declared.Layout.{Layout}
 use Rattle.layout.specs.Layout.{Room}
 use Rattle.vscore.specs.declared.VScore.{VScore}
 use Rattle.vscore.specs.Scale.{Scale, Faithful}
-use Rattle.heap.specs.Memory.{Holds, scoreAt, Framed}
+use Rattle.scores.specs.Memory.{Holds, scoreAt, Framed}
+use Rattle.scores.proofs.Memory.{room-holds, holds-at, framed-self, framed-more, framed-then}
 use Rattle.heap.specs.Heap.{Popped}
-use Rattle.heap.proofs.Memory.{room-holds, holds-at, framed-self, framed-more, framed-then}
 use Rattle.links.specs.Words.{HasLinks, SameLinks}
 use Rattle.links.specs.Ring.{Triple, Live}
 use Rattle.links.proofs.Ring.{ring-up, triple-alive}

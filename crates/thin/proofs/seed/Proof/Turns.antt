@@ -9,23 +9,25 @@ use lib.ListN.{length}
 use lib.Ieee.{Float}
 use Rattle.rule.specs.Grid.{Point, half}
 use Rattle.rule.specs.Plain.{indices, areaAt}
-use Rattle.rule.proofs.Removals.{length-indices}
+use Rattle.laws.proofs.Removals.{length-indices}
 use Rattle.layout.specs.declared.Layout.{Layout}
 use Rattle.layout.specs.Layout.{Room}
 use Rattle.vscore.specs.declared.VScore.{VScore}
 use Rattle.vscore.specs.Scale.{Scale, Faithful}
-use Rattle.heap.specs.Memory.{Framed}
-use Rattle.heap.proofs.Memory.{framed-self, framed-then}
+use Rattle.scores.specs.Memory.{Framed}
+use Rattle.scores.proofs.Memory.{framed-self, framed-then}
 use Rattle.links.specs.Words.{SameLinks}
 use Rattle.links.specs.Ring.{Then, Triple}
 use Rattle.links.proofs.Marks.{indices-in, in-indices}
 use Rattle.links.proofs.Memory.{same-from, ring-same}
 use Rattle.layout.specs.Points.{PlacedIn}
-use Rattle.thin.specs.Plot.{Points, ScoreOf, ScoredAs, scored, missing}
-use Rattle.thin.specs.Queue.{Entry, QueueOf, PutIs, pushes, full, nothing}
+use Rattle.scoring.specs.declared.Scored.{Scored}
+use Rattle.scoring.specs.Plot.{Points, ScoreOf, ScoredAs, scored, missing}
+use Rattle.scoring.specs.Putting.{PutIs, pushes, full, nothing}
+use Rattle.scoring.proofs.Putting.{put-framed, put-count}
+use Rattle.thin.specs.Queue.{Entry, QueueOf}
 use Rattle.thin.specs.State.{most, fresh, Seeded}
-use Rattle.thin.specs.declared.Scored.{Scored}
-use Rattle.thin.proofs.Queue.{queue-less, queue-put, put-framed, put-count}
+use Rattle.thin.proofs.Queue.{queue-less, queue-put}
 use Rattle.thin.proofs.Removing.{score-entry}
 
 -- ---- the candidates of a whole ring

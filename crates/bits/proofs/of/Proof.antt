@@ -1,0 +1,35 @@
+-- `bits::of` asks for the bits of a float only where it equals itself, which a NaN alone does not. Assumes nothing.
+use mathlib.Core.Path.{_≡_, refl}
+use mathlib.Core.Bool.{true, false, false≢true, true≢false}
+use Prim.Native.Nat.{_*_}
+use lib.Ieee.{Float, nan, inf, fin, eq, isNan, up, down}
+use borrow.Author.Tests.{eq-eqb}
+use Rattle.bits.proofs.of.Statement.{statement}
+use Rattle.bits.proofs.of.Tie as tie
+
+no-nan : (v : Float) → eq v v ≡ true → isNan v ≡ false
+unfolding eq isNan
+no-nan nan e = absurd (false≢true e)
+no-nan (inf s) e = refl
+no-nan (fin s m e) h = refl
+
+a-nan : (v : Float) → eq v v ≡ false → isNan v ≡ true
+unfolding eq isNan
+a-nan nan e = refl
+a-nan (inf true) e = absurd (true≢false e)
+a-nan (inf false) e = absurd (true≢false e)
+a-nan (fin true m e) h = absurd (true≢false (rw (eq-eqb (m * up e * down e) _ refl) at h))
+a-nan (fin false m e) h = absurd (true≢false (rw (eq-eqb (m * up e * down e) _ refl) at h))
+
+float-to-bits-result : tie.Need-float-to-bits-result
+float-to-bits-result c = rw (no-nan (c .before .args .v) (c .if1 .taken)) tt
+
+returns : tie.Need-returns
+returns c = rw (no-nan (c .before .args .v) (c .if1 .taken)) refl
+
+returns-2 : tie.Need-returns-2
+returns-2 c = rw (a-nan (c .before .args .v) (c .if1 .left)) refl
+
+pub of-spec : {M : Type 1} → statement M
+of-spec = tie.close
+    (tie.spec float-to-bits-result returns returns-2)

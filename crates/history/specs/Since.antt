@@ -1,0 +1,68 @@
+-- What was called since a slot was opened, among the calls that count. Assumes nothing.
+use mathlib.Core.Path.{_≡_}
+use mathlib.Core.Bool.{Bool, true, false, cond}
+use mathlib.Core.List.{List, [], _∷_, _++_}
+use Prim.Native.Nat.{ℕ, suc}
+use lib.Dec.{eqb}
+use lib.Ieee.{Float}
+use Rattle.rule.specs.Answers.{Answer, done, kept, removal, finished, refused}
+use Rattle.rule.specs.Slots.{Slots, SlotCall, clear, open′, step, read, close, act}
+use Rattle.history.specs.History.{Made, made, counted}
+
+-- the slots after these calls
+abbrev pub after : Slots → List Made → Slots
+after s [] = s
+after s (m ∷ ms) = after (act s (m .call) .slots) ms
+
+-- the call is a clear, or on slot k
+abbrev pub concerns : ℕ → SlotCall → Bool
+concerns k clear = true
+concerns k (open′ j us vs t) = eqb k j
+concerns k (step j) = eqb k j
+concerns k (read j out) = eqb k j
+concerns k (close j) = eqb k j
+
+-- the call would close slot k
+abbrev pub closes : ℕ → SlotCall → Bool
+closes k clear = true
+closes k (open′ j us vs t) = false
+closes k (step j) = false
+closes k (read j out) = false
+closes k (close j) = eqb k j
+
+abbrev pub isStep : ℕ → SlotCall → Bool
+isStep k clear = false
+isStep k (open′ j us vs t) = false
+isStep k (step j) = eqb k j
+isStep k (read j out) = false
+isStep k (close j) = false
+
+-- no call passes the test
+abbrev pub NoneOf : (SlotCall → Bool) → List Made → Type 0
+NoneOf f [] = Unit {0}
+NoneOf f (m ∷ ms) = (f (m .call) ≡ false) × NoneOf f ms
+
+-- the steps of slot k
+abbrev pub stepsOf : ℕ → List Made → ℕ
+stepsOf k [] = 0
+stepsOf k (m ∷ ms) = let n = stepsOf k ms in cond (isStep k (m .call)) (suc n) n
+
+-- the index that an answer removes
+abbrev pub removes : Answer → List ℕ
+removes done = []
+removes (kept n) = []
+removes (removal i v) = i ∷ []
+removes finished = []
+removes (refused n i) = []
+
+-- the removals that the steps of slot k answered
+abbrev pub removedBy : ℕ → List Made → List ℕ
+removedBy k [] = []
+removedBy k (m ∷ ms) = let is = removedBy k ms in cond (isStep k (m .call)) (removes (m .answer) ++ is) is
+
+-- among the calls that count, m comes after an opening of slot k with nothing that would close it between them
+pub record Since (ms : List Made) (k : ℕ) (us vs : List Float) (t : Float) (between : List Made) (m : Made) : Type 0 where
+  pub earlier : List Made
+  pub later : List Made
+  pub among : counted ms ≡ earlier ++ (made (open′ k us vs t) done [] ∷ (between ++ (m ∷ later)))
+  pub stays : NoneOf (closes k) between

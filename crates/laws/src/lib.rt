@@ -1,0 +1,1 @@
+// Theorems about the rules, in proofs/: what is removed and what is kept, when two segments meet, how slots go on. No function.

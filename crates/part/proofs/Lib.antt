@@ -1,0 +1,5 @@
+pub mod Places
+pub mod Holding
+pub mod Filling
+pub mod Listing
+pub mod Advancing

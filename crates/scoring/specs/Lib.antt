@@ -1,0 +1,2 @@
+pub mod Plot
+pub mod Putting

@@ -1,4 +1,0 @@
-pub mod Rep
-pub mod Parts
-pub mod History
-pub mod Since

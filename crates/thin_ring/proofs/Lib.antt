@@ -1,0 +1,3 @@
+pub mod Demoting
+pub mod Moving
+pub mod Running
