@@ -264,20 +264,20 @@ impl Lent {
     }
 }
 
+/// The bits of NaN, whatever bits it has.
+const NAN_BITS: u64 = 9221120237041090560;
+
+/// Whole numbers up to this are printed as such.
+const WHOLE: f64 = 9007199254740992.0;
+
 fn coordinate(value: f64) -> String {
-    let sign = if value.is_sign_negative() && !value.is_nan() {
-        "-"
-    } else {
-        ""
-    };
-    let size = value.abs();
     if value.is_nan() {
-        "n".to_string()
-    } else if size.is_infinite() {
-        format!("{sign}i")
+        format!("b{NAN_BITS}")
+    } else if value.fract() == 0.0 && value.abs() <= WHOLE {
+        let sign = if value.is_sign_negative() { "-" } else { "" };
+        format!("{sign}{}", value.abs() as u64)
     } else {
-        let half = if size.fract() == 0.5 { ".5" } else { "" };
-        format!("{sign}{}{half}", size.trunc() as u64)
+        format!("b{}", value.to_bits())
     }
 }
 

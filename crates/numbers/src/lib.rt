@@ -1,10 +1,22 @@
 // Reads numbers from lines of text, where blanks part them. What is missing at a line's end reads as 0.
 ghost use mathlib.Core.Path.{_≡_};
-ghost use Prim.Native.Nat.{_<_, _≤_, _%_, min};
-ghost use lib.Dec.{eqb};
+ghost use Prim.Native.Nat.{_%_, min};
+ghost use lib.Dec.{T, eqb};
 ghost use lib.Ieee.{binary64, ofBits};
-ghost use lib.ListN.{length, getD};
-ghost use Rattle.numbers.specs.Reading.{GoesOn};
+ghost use Rattle.numbers.specs.Reading.{
+  byteAt,
+  nextLine,
+  isBlank,
+  isDigit,
+  past,
+  withDigit,
+  number,
+  pastNumber,
+  index,
+  coordinate,
+  pastCoordinate,
+  ReadInto,
+};
 
 pub struct Number {
     pub value: u64,
@@ -19,8 +31,7 @@ struct Coordinate {
 
 // The first place after this line.
 pub fn next_line(text: &[u8], at: usize) -> usize
-    requires { ⌜ at < length (now text) ⌝ }
-    ensures { λ r. ⌜ (at < r) × (r ≤ length (now (text .entry))) ⌝ }
+    ensures { λ r. ⌜ r ≡ nextLine (now (text .entry)) at ⌝ }
 {
     let mut i = at;
     while i < text.len() {
@@ -34,21 +45,21 @@ pub fn next_line(text: &[u8], at: usize) -> usize
 
 // The text ends as a line does.
 pub fn byte(text: &[u8], at: usize) -> u8
-    ensures { λ r. ⌜ r ≡ getD (now (text .entry)) at 10 ⌝ }
+    ensures { λ r. ⌜ r ≡ byteAt (now (text .entry)) at ⌝ }
 {
     if at < text.len() { text[at] } else { b'\n' }
 }
 
 // Whether the line has no more.
 pub fn is_end(text: &[u8], at: usize) -> bool
-    ensures { λ r. ⌜ r ≡ eqb (getD (now (text .entry)) at 10) 10 ⌝ }
+    ensures { λ r. ⌜ r ≡ eqb (byteAt (now (text .entry)) at) 10 ⌝ }
 {
     byte(text, at) == b'\n'
 }
 
 // Reads n of them, or as many as there is room for.
 pub fn read_indices(text: &[u8], at: usize, n: u32, into: &mut [u32]) -> usize
-    ensures { λ r. ⌜ GoesOn (now (text .entry)) at r × (length (now (into .exit)) ≡ length (now (into .entry))) ⌝ }
+    ensures { λ r. ⌜ ReadInto (index (now (text .entry))) (pastNumber (now (text .entry))) at n (now (into .entry)) (now (into .exit)) r ⌝ }
 {
     let end = least(n, into.len());
     let mut next = at;
@@ -63,7 +74,7 @@ pub fn read_indices(text: &[u8], at: usize, n: u32, into: &mut [u32]) -> usize
 }
 
 pub fn read_coordinates(text: &[u8], at: usize, n: u32, into: &mut [f64]) -> usize
-    ensures { λ r. ⌜ GoesOn (now (text .entry)) at r × (length (now (into .exit)) ≡ length (now (into .entry))) ⌝ }
+    ensures { λ r. ⌜ ReadInto (coordinate (now (text .entry))) (pastCoordinate (now (text .entry))) at n (now (into .entry)) (now (into .exit)) r ⌝ }
 {
     let end = least(n, into.len());
     let mut next = at;
@@ -77,55 +88,35 @@ pub fn read_coordinates(text: &[u8], at: usize, n: u32, into: &mut [f64]) -> usi
     next
 }
 
-// A sign, and a size.
+// A whole number, `-` and one, or `b` and the bits of any float.
 fn read_coordinate(text: &[u8], at: usize) -> Coordinate
-    ensures { λ r. ⌜ GoesOn (now (text .entry)) at (r .next) ⌝ }
+    ensures { λ r. ⌜ (r .value ≡ coordinate (now (text .entry)) at) × (r .next ≡ pastCoordinate (now (text .entry)) at) ⌝ }
 {
     let start = skip(text, at);
-    if byte(text, start) == b'-' {
-        let read = read_size(text, past(text, start));
+    let first = byte(text, start);
+    if first == b'b' {
+        let bits = read_number(text, start + 1);
         return Coordinate {
-            value: -read.value,
-            next: read.next,
+            value: float_of(bits.value),
+            next: bits.next,
         };
     }
-    read_size(text, start)
-}
-
-// A whole number, or one and a half; `i` for infinity, `n` for NaN.
-fn read_size(text: &[u8], at: usize) -> Coordinate
-    ensures { λ r. ⌜ GoesOn (now (text .entry)) at (r .next) ⌝ }
-{
-    let first = byte(text, at);
-    if first == b'i' {
+    if first == b'-' {
+        let opposite = read_number(text, start + 1);
         return Coordinate {
-            value: 1.0 / 0.0,
-            next: past(text, at),
+            value: -std::num::nearest_u64_to_f64(opposite.value),
+            next: opposite.next,
         };
     }
-    if first == b'n' {
-        return Coordinate {
-            value: 0.0 / 0.0,
-            next: past(text, at),
-        };
-    }
-    let whole = read_number(text, at);
-    let value = std::num::nearest_u64_to_f64(whole.value);
-    if byte(text, whole.next) == b'.' {
-        let half = read_number(text, past(text, whole.next));
-        return Coordinate {
-            value: value + 0.5,
-            next: half.next,
-        };
-    }
+    let whole = read_number(text, start);
     Coordinate {
-        value,
+        value: std::num::nearest_u64_to_f64(whole.value),
         next: whole.next,
     }
 }
 
 pub fn read_number(text: &[u8], at: usize) -> Number
-    ensures { λ r. ⌜ GoesOn (now (text .entry)) at (r .next) ⌝ }
+    ensures { λ r. ⌜ (r .value ≡ number (now (text .entry)) at) × (r .next ≡ pastNumber (now (text .entry)) at) ⌝ }
 {
     let mut value = 0;
     let mut next = skip(text, at);
@@ -140,24 +131,30 @@ pub fn read_number(text: &[u8], at: usize) -> Number
     Number { value, next }
 }
 
-fn is_digit(b: u8) -> bool {
+fn is_digit(b: u8) -> bool
+    ensures { λ r. ⌜ r ≡ isDigit b ⌝ }
+{
     if b < b'0' {
         return false;
     }
     b <= b'9'
 }
 
-// One more digit, while there is room for any.
-fn with_digit(value: u64, b: u8) -> u64 {
-    if 1844674407370955160 < value {
-        return value;
+// One more digit, or the greatest number where there is no room for it.
+fn with_digit(value: u64, b: u8) -> u64
+    requires { ⌜ T (isDigit b) ⌝ }
+    ensures { λ r. ⌜ r ≡ withDigit value b ⌝ }
+{
+    let digit = (b - b'0') as u64;
+    if (18446744073709551615 - digit) / 10 < value {
+        return 18446744073709551615;
     }
-    value * 10 + (b % 16) as u64
+    value * 10 + digit
 }
 
 // The first place from here on that is no blank.
 fn skip(text: &[u8], at: usize) -> usize
-    ensures { λ r. ⌜ GoesOn (now (text .entry)) at r ⌝ }
+    ensures { λ r. ⌜ r ≡ past isBlank (now (text .entry)) at ⌝ }
 {
     let mut i = at;
     while i < text.len() {
@@ -167,12 +164,6 @@ fn skip(text: &[u8], at: usize) -> usize
         i += 1;
     }
     i
-}
-
-fn past(text: &[u8], at: usize) -> usize
-    ensures { λ r. ⌜ GoesOn (now (text .entry)) at r ⌝ }
-{
-    if at < text.len() { at + 1 } else { at }
 }
 
 // The lower half of a number.

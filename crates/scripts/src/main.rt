@@ -1,4 +1,4 @@
-// Plays the script on standard input through the C face, a slot call a line, and prints what each call answers. The work area is one place longer than the
+// Plays the script on standard input, a slot call a line, and prints what each call answers. The work area is one place longer than the
 // table of sizes asks, and starts full of other numbers. A line is a call's word and its numbers, or one of these:
 //     lent FLOATS WORDS    from here on so many places of the area are lent
 //     edge                 prints the last places of the area, then those past it
@@ -6,14 +6,11 @@
 // tools/expect-scripts makes the script, and works out on a model of document 01 what must be printed.
 ghost use mathlib.Core.Path.{_≡_};
 ghost use lib.ListN.{length};
-
-// An answer is the number of a reason times this and what comes with it.
-const HALF: u64 = 4294967296;
-
-const FINISHED: u64 = 255;
-
-// What stands in the place for an area that is not written.
-const NO_AREA: f64 = -1.0;
+use rule::Listing;
+use rule::Outcome;
+use rule::Reason;
+use rule::SlotNumber;
+use rule::Step;
 
 // Every word has its numbers past this place, and the fourth letter tells the words apart.
 const NUMBERS: usize = 5;
@@ -128,7 +125,7 @@ fn read_lent(line: &[u8]) -> Lent {
 fn call(line: &[u8], letter: u8, floats: &mut [f64], words: &mut [u32]) {
     let read = numbers::read_number(line, NUMBERS);
     let at = read.next;
-    let slot = numbers::narrow(read.value);
+    let slot = SlotNumber(numbers::narrow(read.value));
     print_until(line, at);
     if letter == b'p' {
         step(slot, floats, words);
@@ -138,7 +135,7 @@ fn call(line: &[u8], letter: u8, floats: &mut [f64], words: &mut [u32]) {
         read_slot(line, at, slot, floats, words);
         return;
     }
-    done(change(line, letter, at, slot, floats, words));
+    outcome(change(line, letter, at, slot, floats, words));
 }
 
 // The calls that give no more than an outcome.
@@ -146,27 +143,42 @@ fn change(
     line: &[u8],
     letter: u8,
     at: usize,
-    slot: u32,
+    slot: SlotNumber,
     floats: &mut [f64],
     words: &mut [u32],
-) -> u64 {
+) -> Outcome {
     if letter == b'a' {
-        return pylonfrith::pf_clear(floats, words);
+        return slots::clear(floats, words);
     }
     if letter == b's' {
-        return pylonfrith::pf_close(floats, words, slot);
+        return slots::close(floats, words, slot);
     }
     open(line, at, slot, floats, words)
 }
 
-fn step(slot: u32, floats: &mut [f64], words: &mut [u32]) {
-    let mut area = NO_AREA;
-    let n = pylonfrith::pf_step(floats, words, slot, &mut area);
-    answer(n, b" removed");
-    float(area);
+fn step(slot: SlotNumber, floats: &mut [f64], words: &mut [u32]) {
+    match slots::step(floats, words, slot) {
+        Step::Removed(point, area) => {
+            io::write_all(1, b" removed");
+            word(point.0);
+            float(area);
+        }
+        Step::Finished => {
+            io::write_all(1, b" finished");
+        }
+        Step::Refused(reason) => {
+            refused(reason);
+        }
+    }
 }
 
-fn open(line: &[u8], at: usize, slot: u32, floats: &mut [f64], words: &mut [u32]) -> u64 {
+fn open(
+    line: &[u8],
+    at: usize,
+    slot: SlotNumber,
+    floats: &mut [f64],
+    words: &mut [u32],
+) -> Outcome {
     let mut points = coordinates();
     let o = read_opening(line, at);
     numbers::read_coordinates(line, o.next, 8194, &mut points);
@@ -174,10 +186,16 @@ fn open(line: &[u8], at: usize, slot: u32, floats: &mut [f64], words: &mut [u32]
 }
 
 // The y follow the x.
-fn open_line(o: Opening, slot: u32, points: &[f64], floats: &mut [f64], words: &mut [u32]) -> u64 {
+fn open_line(
+    o: Opening,
+    slot: SlotNumber,
+    points: &[f64],
+    floats: &mut [f64],
+    words: &mut [u32],
+) -> Outcome {
     let a = numbers::least(o.xs, points.len());
     let b = numbers::least(o.ys, points.len() - a);
-    pylonfrith::pf_open(
+    slots::open(
         floats,
         words,
         slot,
@@ -200,15 +218,23 @@ fn read_opening(line: &[u8], at: usize) -> Opening {
 }
 
 // With as many places for the indices as the line says, nine at most.
-fn read_slot(line: &[u8], at: usize, slot: u32, floats: &[f64], words: &[u32]) {
+fn read_slot(line: &[u8], at: usize, slot: SlotNumber, floats: &[f64], words: &[u32]) {
     let mut out = [99; 9];
     let places = numbers::read_number(line, at);
     let n = numbers::least(numbers::narrow(places.value), 9);
     read_into(slot, floats, words, &mut out[..n]);
 }
 
-fn read_into(slot: u32, floats: &[f64], words: &[u32], out: &mut [u32]) {
-    answer(pylonfrith::pf_read(floats, words, slot, out), b" listed");
+fn read_into(slot: SlotNumber, floats: &[f64], words: &[u32], out: &mut [u32]) {
+    match slots::read(floats, words, slot, out) {
+        Listing::Listed(count) => {
+            io::write_all(1, b" listed");
+            word(count);
+        }
+        Listing::Refused(reason) => {
+            refused(reason);
+        }
+    }
     io::write_all(1, b":");
     all(out);
 }
@@ -229,21 +255,22 @@ fn place(floats: &[f64], words: &[u32], f: usize, w: usize) {
     }
 }
 
-fn done(n: u64) {
-    answer(n, b" done");
+fn outcome(answer: Outcome) {
+    match answer {
+        Outcome::Done => {
+            io::write_all(1, b" done");
+        }
+        Outcome::Refused(reason) => {
+            refused(reason);
+        }
+    }
 }
 
-fn answer(n: u64, accepted: &[u8]) {
-    let number = n / HALF;
-    if number == 0 {
-        io::write_all(1, accepted);
-    } else if number == FINISHED {
-        io::write_all(1, b" finished");
-    } else {
-        io::write_all(1, b" refused");
-        count(number);
-    }
-    count(n % HALF);
+// A reason's number, and the place that comes with it.
+fn refused(reason: Reason) {
+    io::write_all(1, b" refused");
+    word(numbered::number(reason));
+    word(numbered::place(reason));
 }
 
 fn print_until(line: &[u8], end: usize) {
@@ -259,12 +286,8 @@ fn all(out: &[u32]) {
 }
 
 fn word(n: u32) {
-    count(n as u64);
-}
-
-fn count(n: u64) {
     io::write_all(1, b" ");
-    io::print_decimal(1, n);
+    io::print_decimal(1, n as u64);
 }
 
 fn end() {

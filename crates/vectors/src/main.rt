@@ -203,7 +203,7 @@ fn lend(
     let b = numbers::least(v.ys, y.len());
     let c = numbers::least(v.rings, rings.len());
     let d = numbers::least(v.out, out.len());
-    let e = numbers::least(v.ring_out, ring_out.len());
+    let e = numbers::least(v.table, ring_out.len());
     let f = numbers::least(v.floats, floats.len());
     let g = numbers::least(v.words, words.len());
     answer(
