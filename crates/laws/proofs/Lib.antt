@@ -5,6 +5,7 @@ pub mod Kept
 pub mod Least
 pub mod Tolerance
 pub mod RingRemovals
+pub mod Demoted
 pub mod Rings
 pub mod Over
 pub mod History
