@@ -13,39 +13,9 @@ use Rattle.rule.specs.Sizes.{mostPoints, scratchFloats, scratchWords}
 use Rattle.rule.specs.Grid.{isFinite}
 use Rattle.rule.specs.Reasons.{Row, firstOf, isSome, firstOffGrid, lengthsDiffer, tooManyPoints, someOffGrid, outputShort, scratchShort, lineRows, repeatReason}
 use Rattle.rule.specs.Whole.{Lent}
+use Rattle.rule.proofs.Reasons.{NoneApplies, none-applies}
 use Rattle.lent.specs.Fine.{Fine, Ready}
 use Rattle.lent.proofs.Scan.{on-all}
-
-abbrev pub above0 : ℕ → Bool
-above0 zero = false
-above0 (suc n) = true
-
--- every row has a number
-abbrev pub numbered : List Row → Bool
-numbered [] = true
-numbered (r ∷ rs) = above0 (r .number) && numbered rs
-
-abbrev pub NoneApplies : List Row → Type 0
-NoneApplies [] = Unit {0}
-NoneApplies (r ∷ rs) = (r .applies ≡ false) × NoneApplies rs
-
-pub none-applies : (rs : List Row) → numbered rs ≡ true → firstOf rs ≡ 0 → NoneApplies rs
-none-applies [] n e = tt
-none-applies (r ∷ rs) n e = go (r .applies) (r .number) refl e n (none-applies rs)
-  where
-    go : (b : Bool) (k : ℕ) → r .applies ≡ b → cond b k (firstOf rs) ≡ 0 → (above0 k && numbered rs) ≡ true
-        → (numbered rs ≡ true → firstOf rs ≡ 0 → NoneApplies rs) → (r .applies ≡ false) × NoneApplies rs
-    go false (suc k) f g n h = (f, h n g)
-    go b zero f g n h = absurd (true≢false (sym n))
-    go true (suc k) f g n h = absurd (omega arith)
-
--- and then the rows after them decide
-pub rows-then : (rs ss : List Row) → numbered rs ≡ true → firstOf rs ≡ 0 → firstOf (rs ++ ss) ≡ firstOf ss
-rows-then rs ss n e = go rs (none-applies rs n e)
-  where
-    go : (qs : List Row) → NoneApplies qs → firstOf (qs ++ ss) ≡ firstOf ss
-    go [] a = refl
-    go (q ∷ qs) a = rw (a .0) (go qs (a .1))
 
 nowhere : (o : Option ℕ) → isSome o ≡ false → o ≡ none
 nowhere none e = refl
@@ -59,16 +29,16 @@ fine-of us vs a b c =
 -- no reason of a line with a tolerance
 module _ (us vs : List Float) (t : Float) (e : firstOf (lineRows us vs t) ≡ 0) where
   pub line-fine : Fine us vs
-  line-fine = let a = none-applies (lineRows us vs t) refl e in fine-of us vs (a .0) (a .1 .0) (a .1 .1 .1 .0)
+  line-fine = let a = none-applies (lineRows us vs t) tt e in fine-of us vs (a .0) (a .1 .0) (a .1 .1 .1 .0)
 
   pub line-finite : isFinite t ≡ true
-  line-finite = not-false (isFinite t) (none-applies (lineRows us vs t) refl e .1 .1 .0)
+  line-finite = not-false (isFinite t) (none-applies (lineRows us vs t) tt e .1 .1 .0)
 
 -- no reason of a call on repeated points
 module _ (us vs : List Float) (room : ℕ) (e : repeatReason us vs room ≡ 0) where
   unapplied : NoneApplies (lengthsDiffer us vs ∷ tooManyPoints us ∷ someOffGrid us vs ∷ outputShort room (length us) ∷ [])
   unfolding repeatReason
-  unapplied = none-applies (lengthsDiffer us vs ∷ tooManyPoints us ∷ someOffGrid us vs ∷ outputShort room (length us) ∷ []) refl e
+  unapplied = none-applies (lengthsDiffer us vs ∷ tooManyPoints us ∷ someOffGrid us vs ∷ outputShort room (length us) ∷ []) tt e
 
   pub repeat-fine : Fine us vs
   repeat-fine = fine-of us vs (unapplied .0) (unapplied .1 .0) (unapplied .1 .1 .0)

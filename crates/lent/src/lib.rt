@@ -1,4 +1,4 @@
-// Lent memory: the tests behind the reasons, one function a row of document 01's table, and equal points. Each test is exact for every input.
+// Lent memory: the tests of the reasons 1 to 4 and 7 to 9, each a row of document 01's table, and equal points. Each is exact for every input.
 ghost use mathlib.Core.Path.{_≡_};
 ghost use Prim.Native.Nat.{_<_};
 ghost use lib.ListN.{length};

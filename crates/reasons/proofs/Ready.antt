@@ -11,7 +11,8 @@ use Rattle.rule.specs.Answers.{ofOutcome}
 use Rattle.rule.specs.Reasons.{firstOffGrid, lineRows, thinReason}
 use Rattle.rule.specs.Whole.{Lent}
 use Rattle.lent.specs.Fine.{Ready}
-use Rattle.lent.proofs.Rows.{none-applies, ready-of}
+use Rattle.rule.proofs.Reasons.{none-applies}
+use Rattle.lent.proofs.Rows.{ready-of}
 use Rattle.reasons.specs.Verdict.{verdict, memoryRows}
 use Rattle.reasons.proofs.Verdict.{as-told, accepted}
 
@@ -20,7 +21,7 @@ thin-ready : (us vs : List Float) (t : Float) (m : Lent) → thinReason us vs t 
 unfolding thinReason
 thin-ready us vs t m e =
     let more = memoryRows (ltb (length (m .out)) (length us)) (length (m .floats)) (length (m .words)) (length us) in
-    let a = none-applies (lineRows us vs t ++ more) refl e in
+    let a = none-applies (lineRows us vs t ++ more) tt e in
     ready-of us vs t m more a (ltb-false (length (m .out)) (length us) (a .1 .1 .1 .1 .0)) (a .1 .1 .1 .1 .1 .0)
 
 -- the tests found no reason

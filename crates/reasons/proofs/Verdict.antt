@@ -5,15 +5,16 @@ use mathlib.Core.List.{List, [], _∷_, _++_}
 use mathlib.Core.Option.{Option}
 use Prim.Native.Nat.{ℕ, zero, suc}
 use native.Mathlib.Omega.{arith}
+use lib.Dec.{T}
 use Rattle.rule.specs.declared.Outcome.{Outcome}
 use Rattle.rule.specs.declared.Outcome.the-variants.{Done}
 use Rattle.rule.specs.declared.Reason.{Reason}
 use Rattle.rule.specs.Answers.{Answer, done, refusedFor, ofOutcome}
 use Rattle.rule.specs.Reasons.{Row, firstOf}
 use Rattle.rule.specs.Whole.{Call}
+use Rattle.rule.proofs.Reasons.{lacks, none-given, none-applies}
 use Rattle.rule.proofs.Settled.{call-refused}
 use Rattle.reasons.specs.Verdict.{verdict}
-use Rattle.lent.proofs.Rows.{numbered, rows-then}
 
 -- the case that the code has found it to be
 pub as-told : {o o′ : Outcome} {a : Answer} → o ≡ o′ → ofOutcome o ≡ a → ofOutcome o′ ≡ a
@@ -42,5 +43,5 @@ refused-before off (r ∷ rs) ss w e = go (r .applies) e (refused-before off rs 
     go false f h = h f
 
 -- a call that has these rows first, and passed their tests, goes on with the rows after them
-pub rows-passed : {o : Outcome} (off : Option ℕ) (rs ss : List Row) → numbered rs ≡ true → ofOutcome o ≡ verdict (firstOf rs) off → o ≡ Done → firstOf (rs ++ ss) ≡ firstOf ss
-rows-passed off rs ss n e d = rows-then rs ss n (accepted (firstOf rs) off (as-told d e))
+pub rows-passed : {o : Outcome} (off : Option ℕ) (rs ss : List Row) → T (lacks 0 rs) → ofOutcome o ≡ verdict (firstOf rs) off → o ≡ Done → firstOf (rs ++ ss) ≡ firstOf ss
+rows-passed off rs ss t e d = none-given rs ss (none-applies rs t (accepted (firstOf rs) off (as-told d e)))

@@ -142,10 +142,6 @@ closed-not-open k a h g = ap isOpen (closed-part k a h g) ∙ zeros-not-open (re
 -- ---- clear
 
 module _ {A : Type 0} (z : A) (n : ℕ) (l : List A) where
-  pub cleared-level : n ≤ length l → length (cleared z n l) ≡ length l
-  unfolding cleared
-  cleared-level h = simp (length-append, length-replicate, length-drop) (omega arith)
-
   cleared-long : n ≤ length (cleared z n l)
   unfolding cleared
   cleared-long = simp (length-append, length-replicate) (omega arith)

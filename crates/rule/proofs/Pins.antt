@@ -18,7 +18,7 @@ use Rattle.rule.specs.Area.{area, isOpen, zeroFloat}
 use Rattle.rule.specs.Reasons.{firstOffGrid, refusal, repeatReason, thinReason, polygonReason, clearReason, openReason, slotReason, readReason}
 use Rattle.rule.specs.SlotCalls.{isRefused}
 use Rattle.rule.specs.Slots.{stepAnswer}
-use Rattle.rule.specs.Checkpoints.{pt, L, M, square, whole, halfOf, near668·6, Row, _⊢_, one, table}
+use Rattle.rule.specs.Checkpoints.{pt, L, M, square, whole, halfOf, near668·6, Checkpoint, _⊢_, one, table}
 
 -- ---- P1 to P12, as one table under one claim
 pub checkpoints : map (λ r. r .given) table ≡ map (λ r. r .wanted) table
@@ -85,7 +85,7 @@ sixAround = pt 1 0 ∷ pt 0 0 ∷ pt 0 1 ∷ pt 1 1 ∷ pt 0 0 ∷ pt 1 0 ∷ []
 abbrev folded : List Point
 folded = pt 0 2 ∷ pt 0 1 ∷ pt 2 0 ∷ pt 0 2 ∷ pt 0 1 ∷ pt 0 0 ∷ []
 
-unfoldable pub ourRows : List Row
+unfoldable pub ourRows : List Checkpoint
 unfolding indexRule lineRule polygonRule
 ourRows =
     (polygonRule holed (whole 100) (5 ∷ 9 ∷ []) ⊢ (0 ∷ 1 ∷ 2 ∷ 3 ∷ 4 ∷ []) ∷ (5 ∷ 6 ∷ 7 ∷ 8 ∷ []) ∷ [])

@@ -41,7 +41,7 @@ abbrev pub lacks : ℕ → List Row → Bool
 lacks n [] = true
 lacks n (r ∷ rs) = not (eqb (r .number) n) && lacks n rs
 
-none-given : (es rs : List Row) → NoneApplies es → firstOf (es ++ rs) ≡ firstOf rs
+pub none-given : (es rs : List Row) → NoneApplies es → firstOf (es ++ rs) ≡ firstOf rs
 none-given [] rs h = refl
 none-given (r ∷ es) rs h = rw (h .0) (none-given es rs (h .1))
 
@@ -57,9 +57,12 @@ passed-over n (r ∷ es) rs t e =
     not-this false i j t e = (refl, e)
 
 -- no number is given exactly if no row applies
+pub none-applies : (rs : List Row) → T (lacks 0 rs) → firstOf rs ≡ 0 → NoneApplies rs
+none-applies rs t e = passed-over 0 rs [] t (ap firstOf (append-nil rs) ∙ e)
+
 pub none-is : (rs : List Row) → T (lacks 0 rs) → (firstOf rs ≡ 0) ↔ NoneApplies rs
 none-is rs t = (
-  λ e. passed-over 0 rs [] t (ap firstOf (append-nil rs) ∙ e),
+  none-applies rs t,
   λ h. sym (ap firstOf (append-nil rs)) ∙ none-given rs [] h,
 )
 

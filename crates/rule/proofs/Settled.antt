@@ -90,7 +90,7 @@ module _ (Rep : Area → List Point → Float → List ℕ → Type 0) where
       go ps t ks h zero e = step-same r s (c .does e ps t ks h .0 ∙ sym (d .does e ps t ks h .0))
       go ps t ks h (suc n) e = step-same r s (c .refuses n e .0 ∙ sym (d .refuses n e .0))
 
-  -- the answer and the output, wherever the slot's part is one that the calls have made, and where the call refuses
+  -- the answer and the output, wherever the slot's part is one that the calls have made, and where 8, 9 or 11 applies
   pub record ReadSettled (k : ℕ) (a : Area) (r s : Listing) (p q : List ℕ) : Type 0 where
     pub whole : (ps : List Point) (t : Float) (ks : List ℕ) → Rep (part k a) ps t ks → (r ≡ s) × (p ≡ q)
     pub refused : (n : ℕ) → slotReason k a ≡ suc n → (r ≡ s) × (p ≡ q)

@@ -65,18 +65,18 @@ answer (some c) = c .current ∷ c .score ∷ []
 
 -- ---- the table
 
-pub record Row : Type 0 where
+pub record Checkpoint : Type 0 where
   pub given : List (List ℕ)
   pub wanted : List (List ℕ)
 
 infix 3 _⊢_
-abbrev pub _⊢_ : List (List ℕ) → List (List ℕ) → Row
+abbrev pub _⊢_ : List (List ℕ) → List (List ℕ) → Checkpoint
 g ⊢ w = record { given = g; wanted = w }
 
 abbrev pub one : List ℕ → List (List ℕ)
 one ks = ks ∷ []
 
-unfoldable pub table : List Row
+unfoldable pub table : List Checkpoint
 unfolding indexRule pointRule removed preserveRemoved lineRule polygonRule next all consecutive anywhere inTurn currents answer
 table =
     -- P1

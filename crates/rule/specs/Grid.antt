@@ -56,7 +56,7 @@ unfoldable pub area2 : Point → Point → Point → ℕ
 unfolding turn
 area2 a b c = natAbs (turn a b c)
 
--- the f64 that is half of d, for a d of at most 64 binary digits; half of 0 is +0.0
+-- half of d, exactly, for a d of at most 64 binary digits; with at most 53 it is an f64. Half of 0 is +0.0
 unfoldable pub half : ℕ → Float
 unfolding odd
 half d = odd 64 false d 0 1

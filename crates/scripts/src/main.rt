@@ -11,6 +11,7 @@ use rule::Outcome;
 use rule::Reason;
 use rule::SlotNumber;
 use rule::Step;
+use rule::WorkArea;
 
 // Every word has its numbers past this place, and the fourth letter tells the words apart.
 const NUMBERS: usize = 5;
@@ -241,8 +242,8 @@ fn read_into(slot: SlotNumber, floats: &[f64], words: &[u32], out: &mut [u32]) {
 
 fn edge(floats: &[f64], words: &[u32]) {
     io::write_all(1, b"edge");
-    place(floats, words, 163839, 393343);
-    place(floats, words, 163840, 393344);
+    place(floats, words, WorkArea::FLOATS - 1, WorkArea::WORDS - 1);
+    place(floats, words, WorkArea::FLOATS, WorkArea::WORDS);
     end();
 }
 

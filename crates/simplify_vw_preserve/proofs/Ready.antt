@@ -9,7 +9,8 @@ use lib.Ieee.{Float}
 use Rattle.rule.specs.Reasons.{Row, lineRows, ringTable, ringNotClosed, polygonReason}
 use Rattle.rule.specs.Whole.{LentRings}
 use Rattle.reasons.specs.Verdict.{memoryRows}
-use Rattle.lent.proofs.Rows.{none-applies, room-for, ready-of}
+use Rattle.rule.proofs.Reasons.{none-applies}
+use Rattle.lent.proofs.Rows.{room-for, ready-of}
 use Rattle.ring_reasons.proofs.Table.{table-cuts}
 use Rattle.simplify_vw_preserve.specs.Whole.{ReadyRings}
 
@@ -20,7 +21,7 @@ polygon-ready us vs t table m e =
     let n = length us in
     let short = ltb (length (m .line .out)) n || ltb (length (m .ringOut)) (length table) in
     let more : List Row = ringTable n table ∷ ringNotClosed us vs table ∷ memoryRows short (length (m .line .floats)) (length (m .line .words)) n in
-    let a = none-applies (lineRows us vs t ++ more) refl e in
+    let a = none-applies (lineRows us vs t ++ more) tt e in
     let rings = a .1 .1 .1 .1 in
     let room = room-for (length (m .line .out)) n (length (m .ringOut)) (length table) (rings .1 .1 .0) in
     record { line = ready-of us vs t (m .line) more a (room .0) (rings .1 .1 .1 .0); cuts = table-cuts n table (rings .0); room = room .1 }

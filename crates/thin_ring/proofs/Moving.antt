@@ -48,7 +48,7 @@ module _ (q : Minima) (n : ℕ) (c : Candidate) (crossed : Bool) where
 
 -- ---- the other rings
 
-pub same-then : {ws ws′ ws″ : List ℕ} {m : Layout} {i : ℕ} → SameLinks ws m ws′ i → SameLinks ws′ m ws″ i → SameLinks ws m ws″ i
+same-then : {ws ws′ ws″ : List ℕ} {m : Layout} {i : ℕ} → SameLinks ws m ws′ i → SameLinks ws′ m ws″ i → SameLinks ws m ws″ i
 same-then a b = record { previous = b .previous ∙ a .previous; next = b .next ∙ a .next; mark = b .mark ∙ a .mark }
 
 -- their links are those of other points

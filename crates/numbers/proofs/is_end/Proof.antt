@@ -1,5 +1,5 @@
 -- `numbers::is_end` says what it finds at the place. Assumes nothing.
-use mathlib.Core.Path.{_≡_, refl}
+use mathlib.Core.Path.{refl}
 use borrow.Author.Needs.{needs}
 use Rattle.numbers.proofs.is_end.Statement.{statement}
 use Rattle.numbers.proofs.is_end.Tie as tie

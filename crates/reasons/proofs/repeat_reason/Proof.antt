@@ -31,7 +31,7 @@ module _ (c : tie.After-line-reason) where
 
   then : c .line-reason .result ≡ Done → repeatReason us vs (start .args .room) ≡ firstOf more
   unfolding repeatReason ofBits
-  then e = rows-passed (firstOffGrid us vs) line more refl (c .line-reason .ensures) e
+  then e = rows-passed (firstOffGrid us vs) line more tt (c .line-reason .ensures) e
 
 room-short : (c : tie.After-output-short) (b : Bool) → c .output-short .result ≡ b
     → let l = c .before .before .before in outputShort (start l .args .room) (length (us l)) .applies ≡ b

@@ -30,7 +30,7 @@ module _ (c : tie.After-line-reason) where
   more = memoryRows (ltb (start .args .room) (length us)) (length (start .args .floats .now)) (length (start .args .words .now)) (length us)
 
   then : c .line-reason .result ≡ Done → firstOf (line ++ more) ≡ firstOf more
-  then e = rows-passed (firstOffGrid us vs) line more refl (c .line-reason .ensures) e
+  then e = rows-passed (firstOffGrid us vs) line more tt (c .line-reason .ensures) e
 
 returns : tie.Need-returns
 unfolding thinReason

@@ -46,7 +46,7 @@ module _ (t : tie.After-enum-told) where
   then : polygonReason (us tested) (vs tested) (start tested .args .tolerance) (table tested) (start tested .args .room) (start tested .args .ends)
       (length (start tested .args .floats .now)) (length (start tested .args .words .now)) ≡ firstOf (more tested)
   unfolding polygonReason
-  then = rows-passed (firstOffGrid (us tested) (vs tested)) (line tested) (more tested) refl (tested .line-reason .ensures) (t .enum-told .given .1)
+  then = rows-passed (firstOffGrid (us tested) (vs tested)) (line tested) (more tested) tt (tested .line-reason .ensures) (t .enum-told .given .1)
 
 -- each test is its row's
 bad : (c : tie.After-table-bad) (b : Bool) → c .table-bad .result ≡ b → let l = tested (c .before) in ringTable (length (us l)) (table l) .applies ≡ b
