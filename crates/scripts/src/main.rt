@@ -3,7 +3,7 @@
 //     lent FLOATS WORDS    from here on so many places of the area are lent
 //     edge                 prints the last places of the area, then those past it
 //     -- TITLE
-// tools/expect-scripts makes the script, and works out on a model of document 01 what must be printed.
+// tools/expect-scripts plays the script on a model of document 01, and so works out what must be printed.
 ghost use mathlib.Core.Path.{_≡_};
 ghost use lib.ListN.{length};
 use rule::Listing;
