@@ -1,7 +1,10 @@
 -- The history theorem: from a clear on, whatever the calls, all answers and outputs are those of the slots as a reader thinks of them. Assumes nothing.
+--     history        all answers and outputs are as expected
+--     cut-short      a call that is lent the area cut short is refused with 8, and its output is as it was
+--     not-cut        no other call is
 use mathlib.Core.Path.{_≡_, refl, sym, ap, _∙_, subst}
-use mathlib.Core.Logic.{_⊎_, inl, inr}
-use mathlib.Core.Bool.{Bool, true, false, not, cond}
+use mathlib.Core.Logic.{_≢_}
+use mathlib.Core.Bool.{Bool, true, false, not, _||_, cond, true≢false}
 use mathlib.Core.List.{List, [], _∷_, _++_}
 use mathlib.Core.Option.{Option, none, some}
 use Prim.Native.Nat.{ℕ, zero, suc, _+_, _*_, _≤_, _<_}
@@ -11,10 +14,11 @@ use lib.Dec.{ltb, eqb}
 use lib.ListN.{length, take, drop, length-take, length-append}
 use lib.Seq.{take-all, take-take, take-at, take-append-le, getD-take, ext-getD, length-take-le}
 use lib.Ieee.{Float, nan}
-use Rattle.rule.specs.Sizes.{mostPoints, slots, slotFloats, slotWords}
+use borrow.Author.Tests.{ltb-true, ltb-false, lt-ltb, le-ltb}
+use Rattle.rule.specs.Sizes.{mostPoints, slots, slotFloats, slotWords, areaFloats, areaWords}
 use Rattle.rule.specs.Grid.{Point, points, isFinite}
 use Rattle.rule.specs.Plain.{Candidate}
-use Rattle.rule.specs.Answers.{Answer, done, kept, refused}
+use Rattle.rule.specs.Answers.{Answer, done, kept, removal, finished, refused}
 use Rattle.rule.specs.Area.{Area, piece, part, isOpen}
 use Rattle.rule.specs.Reasons.{firstOffGrid, isSome, firstOf, lineRows, refusal, areaShort, clearReason, openReason, slotReason}
 use Rattle.rule.specs.Slots.{Slot, closed, opened, Slots, put, nth, leftAfter, stepAnswer, SlotCall, clear, open′, step, read, close, Effect, says}
@@ -24,8 +28,8 @@ use Rattle.rule.specs.SlotCalls.{Clears}
 use Rattle.rule.proofs.Parts.{Long, long, piece-length, piece-at}
 use Rattle.laws.proofs.History.{Holds, Sim, Agrees, clear-agrees, open-agrees, step-agrees, read-agrees, close-agrees}
 use Rattle.part.specs.Rep.{Rep}
-use Rattle.history.specs.History.{Sized, Lending, front, renewed, lentArea, leftArea, Made, made, States, Run, ends, calls, History}
-use Rattle.history.specs.History.{isShort, counted, expected, allClosed}
+use Rattle.history.specs.History.{Sized, Lending, isCut, front, renewed, lentArea, leftArea, Made, made, States, Run, ends, calls, History}
+use Rattle.history.specs.History.{noneOpen, outputOf, effect, expected}
 
 pub rep-open : (p : Area) (ps : List Point) (t : Float) (ks : List ℕ) → Rep p ps t ks → isOpen p ≡ true
 rep-open p ps t ks h = h .opened
@@ -107,6 +111,20 @@ agree-parts s a b h e g = record { sized = h; holds = λ j l. subst (Holds Rep (
 
 -- ---- cut short
 
+-- of n places lent of a slice and what lies behind it
+front-short : {A : Type 0} (size n : ℕ) (l more : List A) → length l ≡ size → ltb n size ≡ ltb (length (front n l more)) size
+front-short size n l more z = go (ltb n size) refl
+  where
+    go : (x : Bool) → ltb n size ≡ x → x ≡ ltb (length (front n l more)) size
+    go true e = sym (lt-ltb (length (front n l more)) size (omega (arith, ltb-true n size e, length-take n (l ++ more))))
+    go false e = sym (le-ltb (length (front n l more)) size (omega (arith, ltb-false n size e, length-take n (l ++ more), length-append l more, z)))
+
+-- exactly then the contracts see an area that is too short
+pub cut-is-short : (d : Lending) (a : Area) → Sized a → isCut d ≡ areaShort (lentArea d a) .applies
+cut-is-short d a z = λ i.
+    front-short areaFloats (d .floats) (a .floats) (d .behind .floats) (z .floats) i
+    || front-short areaWords (d .words) (a .words) (d .behind .words) (z .words) i
+
 module _ (a : Area) (short : areaShort a .applies ≡ true) where
   clear-8 : clearReason a ≡ 8
   unfolding clearReason
@@ -120,12 +138,12 @@ module _ (a : Area) (short : areaShort a .applies ≡ true) where
   unfolding openReason
   open-8 k us vs t = rw short
 
-  refused-8 : (c : SlotCall) (r : Answer) (out : List ℕ) (b : Area) → States c r out a b → (r ≡ refused 8 0) × (b ≡ a)
-  refused-8 clear r out b s = s .0 .refuses 7 clear-8
-  refused-8 (open′ k us vs t) r out b s = s .0 .refuses 7 (open-8 k us vs t)
-  refused-8 (step k) r out b s = s .0 .refuses 7 (slot-8 k)
-  refused-8 (read k old) r out b s = (s .0 .refuses 7 (slot-8 k) .0, s .1)
-  refused-8 (close k) r out b s = s .0 .refuses 7 (slot-8 k)
+  refused-8 : (c : SlotCall) (r : Answer) (out : List ℕ) (b : Area) → States c r out a b → (r ≡ refused 8 0) × (out ≡ outputOf c) × (b ≡ a)
+  refused-8 clear r out b s = let w = s .0 .refuses 7 clear-8 in (w .0, s .1, w .1)
+  refused-8 (open′ k us vs t) r out b s = let w = s .0 .refuses 7 (open-8 k us vs t) in (w .0, s .1, w .1)
+  refused-8 (step k) r out b s = let w = s .0 .refuses 7 (slot-8 k) in (w .0, s .1, w .1)
+  refused-8 (read k old) r out b s = let w = s .0 .refuses 7 (slot-8 k) in (w .0, w .1, s .1)
+  refused-8 (close k) r out b s = let w = s .0 .refuses 7 (slot-8 k) in (w .0, s .1, w .1)
 
 -- ---- no slot that a reader thinks of answers with 8
 
@@ -148,6 +166,14 @@ openedBy s k us vs t n =
 abbrev pub readBy : Slots → List ℕ → List ℕ → Bool → Effect
 readBy s ks out x =
     cond x (record { answer = refused 7 0; out = out; slots = s }) (record { answer = kept (length ks); out = over ks out; slots = s })
+
+-- refused with 8
+abbrev isShort : Answer → Bool
+isShort done = false
+isShort (kept n) = false
+isShort (removal i v) = false
+isShort finished = false
+isShort (refused n i) = eqb n 8
 
 never-8 : (s : Slots) (c : SlotCall) → isShort (act s c .answer) ≡ false
 unfolding act numbered openSlot stepSlot readSlot closeSlot stepAnswer
@@ -191,19 +217,6 @@ never-8 s (close k) = go (ltb k slots) (s k)
 
 -- ---- one call
 
--- it counts: it is answered as a reader expects, and the area goes on agreeing
-record Counts (s : Slots) (m : Made) (a′ : Area) : Type 0 where
-  full : isShort (m .answer) ≡ false
-  answers : m .answer ≡ act s (m .call) .answer
-  lists : m .out ≡ act s (m .call) .out
-  sized : Sized a′
-  agree : Agree (act s (m .call) .slots) a′
-
--- or it counts as nothing
-record Idle (m : Made) (a a′ : Area) : Type 0 where
-  short : isShort (m .answer) ≡ true
-  same : a′ ≡ a
-
 agrees : (s : Slots) (a b : Area) (c : SlotCall) (r : Answer) (out : List ℕ) → Agree s a → States c r out a b → Agrees Rep (act s c) r out b
 agrees s a b clear r out g m = subst (λ (o : List ℕ). Agrees Rep (act s clear) r o b) (sym (m .1)) (clear-agrees Rep s a b r (g .sized) (m .0))
 agrees s a b (open′ k us vs t) r out g m =
@@ -212,53 +225,96 @@ agrees s a b (step k) r out g m = subst (λ (o : List ℕ). Agrees Rep (act s (s
 agrees s a b (read k old) r out g m = subst (Agrees Rep (act s (read k old)) r out) (sym (m .1)) (read-agrees Rep rep-open s k a old out r g (m .0))
 agrees s a b (close k) r out g m = subst (λ (o : List ℕ). Agrees Rep (act s (close k)) r o b) (sym (m .1)) (close-agrees Rep rep-open s k a b r g (m .0))
 
-one-call : (s : Slots) (a : Area) (m : Made) (d : Lending) (b : Area) → Sized a → Agree s a → States (m .call) (m .answer) (m .out) (lentArea d a) b
-    → Idle m a (leftArea d a b) ⊎ Counts s m (leftArea d a b)
-one-call s a m d b z g st = go (areaShort (lentArea d a) .applies) refl
+-- it is answered as a reader expects, and the area goes on agreeing
+one-call : (s : Slots) (a : Area) (m : Made) (b : Area) → Sized a → Agree s a → States (m .call) (m .answer) (m .out) (lentArea (m .lending) a) b
+    → Sized (leftArea (m .lending) a b) × Agrees Rep (effect s (isCut (m .lending)) (m .call)) (m .answer) (m .out) (leftArea (m .lending) a b)
+one-call s a m b z g st = go (isCut (m .lending)) (sym (cut-is-short (m .lending) a z))
   where
-    go : (x : Bool) → areaShort (lentArea d a) .applies ≡ x → Idle m a (leftArea d a b) ⊎ Counts s m (leftArea d a b)
+    lent : Area
+    lent = lentArea (m .lending) a
+
+    left : Area
+    left = leftArea (m .lending) a b
+
+    go : (x : Bool) → areaShort lent .applies ≡ x → Sized left × Agrees Rep (effect s x (m .call)) (m .answer) (m .out) left
     go true e =
-        let w = refused-8 (lentArea d a) e (m .call) (m .answer) (m .out) b st in
-        inl (record { short = ap isShort (w .0); same = ap (leftArea d a) (w .1) ∙ same-area d a z })
+        let w = refused-8 lent e (m .call) (m .answer) (m .out) b st in
+        let same : left ≡ a = ap (leftArea (m .lending) a) (w .2) ∙ same-area (m .lending) a z in
+        (subst Sized (sym same) z, record { answers = w .0; lists = w .1; keeps = subst (Agree s) (sym same) g })
     go false e =
-        let h = long (lentArea d a) e in
-        let w = agrees s (lentArea d a) b (m .call) (m .answer) (m .out) (agree-parts s a (lentArea d a) h (lent-part d a z h) g) st in
+        let h = long lent e in
+        let w = agrees s lent b (m .call) (m .answer) (m .out) (agree-parts s a lent h (lent-part (m .lending) a z h) g) st in
         let k = w .keeps in
-        inr (record {
-          full = ap isShort (w .answers) ∙ never-8 s (m .call);
-          answers = w .answers;
-          lists = w .lists;
-          sized = left-sized d a z b (k .sized);
-          agree = agree-parts (act s (m .call) .slots) b (leftArea d a b) (sized-long (left-sized d a z b (k .sized))) (left-part d a z b (k .sized)) k;
-        })
+        let y = left-sized (m .lending) a z b (k .sized) in (
+          y,
+          record {
+            answers = w .answers;
+            lists = w .lists;
+            keeps = agree-parts (act s (m .call) .slots) b left (sized-long y) (left-part (m .lending) a z b (k .sized)) k;
+          },
+        )
 
 -- ---- all of them
 
-run-expected : (s : Slots) (a : Area) (ms : List Made) → Sized a → Agree s a → Run a ms → expected s (counted ms) ≡ counted ms
+run-expected : (s : Slots) (a : Area) (ms : List Made) → Sized a → Agree s a → Run a ms → expected s ms ≡ ms
 run-expected s a [] z g ends = refl
-run-expected s a (m ∷ ms) z g (calls d b st r) = go (one-call s a m d b z g st) (λ s′ y h. run-expected s′ (leftArea d a b) ms y h r)
-  where
-    go : Idle m a (leftArea d a b) ⊎ Counts s m (leftArea d a b)
-        → ((s′ : Slots) → Sized (leftArea d a b) → Agree s′ (leftArea d a b) → expected s′ (counted ms) ≡ counted ms) → expected s (counted (m ∷ ms)) ≡ counted (m ∷ ms)
-    go (inl i) later = rw (i .short) (later s (subst Sized (sym (i .same)) z) (subst (Agree s) (sym (i .same)) g))
-    go (inr k) later =
-        rw (k .full)
-        (λ i. made (m .call) (sym (k .answers) i) (sym (k .lists) i) ∷ later (act s (m .call) .slots) (k .sized) (k .agree) i)
+run-expected s a (m ∷ ms) z g (calls b st r) =
+    let e = effect s (isCut (m .lending)) (m .call) in
+    let w = one-call s a m b z g st in
+    let later = run-expected (e .slots) (leftArea (m .lending) a b) ms (w .0) (w .1 .keeps) r in
+    λ i. made (m .call) (m .lending) (sym (w .1 .answers) i) (sym (w .1 .lists) i) ∷ later i
 
 -- after a clear of the area a that was answered as done
-from-clear : (d : Lending) (a b : Area) (ms : List Made) → Sized a → Clears (lentArea d a) done b → Run (leftArea d a b) ms → expected allClosed (counted ms) ≡ counted ms
+from-clear : (d : Lending) (a b : Area) (ms : List Made) → Sized a → Clears (lentArea d a) done b → Run (leftArea d a b) ms → expected noneOpen ms ≡ ms
 unfolding act
 from-clear d a b ms z c r = go (areaShort (lentArea d a) .applies) refl
   where
-    go : (x : Bool) → areaShort (lentArea d a) .applies ≡ x → expected allClosed (counted ms) ≡ counted ms
+    go : (x : Bool) → areaShort (lentArea d a) .applies ≡ x → expected noneOpen ms ≡ ms
     go true e =
         let w : done ≡ refused 8 0 = c .refuses 7 (clear-8 (lentArea d a) e) .0 in
         absurd (let z : _≡_ {A = ℕ} 0 1 = cc in omega arith)
     go false e =
-        let k = clear-agrees Rep allClosed (lentArea d a) b done (long (lentArea d a) e) c .keeps in
+        let k = clear-agrees Rep noneOpen (lentArea d a) b done (long (lentArea d a) e) c .keeps in
         let y = left-sized d a z b (k .sized) in
-        run-expected allClosed (leftArea d a b) ms y (agree-parts allClosed b (leftArea d a b) (sized-long y) (left-part d a z b (k .sized)) k) r
+        run-expected noneOpen (leftArea d a b) ms y (agree-parts noneOpen b (leftArea d a b) (sized-long y) (left-part d a z b (k .sized)) k) r
 
--- From a clear on, all calls that count are answered, and list, as a reader expects.
-pub history : {ms : List Made} → History ms → expected allClosed (counted ms) ≡ counted ms
+-- From a clear on, all calls are answered, and list, as a reader expects.
+pub history : {ms : List Made} → History ms → expected noneOpen ms ≡ ms
 history {ms} h = from-clear (h .lending) (h .start) (h .left) ms (h .sized) (h .cleared) (h .run)
+
+-- ---- one of them
+
+-- the first of expected calls, and the others
+pub expected-head : (s : Slots) (m : Made) (ms : List Made) → expected s (m ∷ ms) ≡ m ∷ ms → let e = effect s (isCut (m .lending)) (m .call) in
+    (m .answer ≡ e .answer) × (m .out ≡ e .out) × (expected (e .slots) ms ≡ ms)
+expected-head s m ms e =
+    let x = effect s (isCut (m .lending)) (m .call) in
+    let f : made (m .call) (m .lending) (x .answer) (x .out) ≡ m = cc in
+    let g : expected (x .slots) ms ≡ ms = cc in
+    (sym (ap (λ (n : Made). n .answer) f), sym (ap (λ (n : Made). n .out) f), g)
+
+-- it is answered so by some slots
+record Said (m : Made) : Type 0 where
+  by : Slots
+  answers : m .answer ≡ effect by (isCut (m .lending)) (m .call) .answer
+  lists : m .out ≡ effect by (isCut (m .lending)) (m .call) .out
+
+said : (s : Slots) (xs : List Made) (m : Made) (ys : List Made) → expected s (xs ++ (m ∷ ys)) ≡ xs ++ (m ∷ ys) → Said m
+said s [] m ys e = let h = expected-head s m ys e in record { by = s; answers = h .0; lists = h .1 }
+said s (x ∷ xs) m ys e = said (effect s (isCut (x .lending)) (x .call) .slots) xs m ys (expected-head s x (xs ++ (m ∷ ys)) e .2)
+
+module _ {ms : List Made} (h : History ms) (earlier later : List Made) (m : Made) (among : ms ≡ earlier ++ (m ∷ later)) where
+  this-said : Said m
+  this-said = said noneOpen earlier m later (sym (ap (expected noneOpen) among) ∙ history h ∙ among)
+
+  -- A call that is lent the area cut short is refused with 8, and its output is as it was;
+  pub cut-short : isCut (m .lending) ≡ true → (m .answer ≡ refused 8 0) × (m .out ≡ outputOf (m .call))
+  cut-short e =
+      let w = this-said in
+      (w .answers ∙ ap (λ (x : Bool). effect (w .by) x (m .call) .answer) e, w .lists ∙ ap (λ (x : Bool). effect (w .by) x (m .call) .out) e)
+
+  -- no other call is.
+  pub not-cut : isCut (m .lending) ≡ false → (i : ℕ) → m .answer ≢ refused 8 i
+  not-cut e i f =
+      let w = this-said in
+      true≢false (ap isShort (sym f ∙ w .answers ∙ ap (λ (x : Bool). effect (w .by) x (m .call) .answer) e) ∙ never-8 (w .by) (m .call))

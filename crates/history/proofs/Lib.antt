@@ -1,2 +1,3 @@
 pub mod History
 pub mod Since
+pub mod Pins

@@ -3,10 +3,10 @@
 --     finished-in-time      finished by step n - 1, or by step 1 below 2 points
 --     read-left             a read shows exactly the points left
 --     nothing-lost          the removals answered and the points listed are the points opened, each once
---     others-change-nothing, alone      calls on other slots change nothing of this
+--     others-change-nothing, alone, alone-read      calls on other slots change nothing of this
 --     anew                  closing and opening again starts anew
 use mathlib.Core.Path.{_≡_, refl, sym, ap, _∙_, subst}
-use mathlib.Core.Bool.{Bool, true, false, cond, true≢false}
+use mathlib.Core.Bool.{Bool, true, false, not, _&&_, cond, true≢false}
 use mathlib.Core.List.{List, [], _∷_, _++_}
 use mathlib.Core.Option.{Option, none, some}
 use Prim.Native.Nat.{ℕ, zero, suc, _+_, _-_, _≤_, _<_, max}
@@ -24,30 +24,57 @@ use Rattle.rule.specs.Answers.{done, kept, finished, refused}
 use Rattle.rule.specs.Reasons.{firstOffGrid, firstOf, lineRows}
 use Rattle.rule.specs.Slots.{Slot, closed, opened, Slots, nth, leftAfter, stepAnswer, SlotCall, clear, open′, step, read, close, says}
 use Rattle.rule.specs.Slots.{openSlot, stepSlot, readSlot, closeSlot, numbered, act}
-use Rattle.rule.specs.SlotCalls.{lessBy}
+use Rattle.rule.specs.SlotCalls.{isRefused, lessBy}
 use Rattle.rule.specs.Whole.{over}
-use Rattle.laws.proofs.Removals.{Given, Mid, next-mid, times, times-append, mid-times, without-times, eqb-self}
+use Rattle.laws.specs.Times.{times}
+use Rattle.laws.proofs.Removals.{Given, Mid, next-mid, times-append, mid-times, without-times, eqb-self}
 use Rattle.laws.proofs.Removals.{next-nth, left-suc, left-zero, finished-by, once, no-other}
 use Rattle.reasons.specs.Verdict.{verdict}
-use Rattle.history.specs.History.{Made, made, History, counted, expected, allClosed}
-use Rattle.history.specs.Since.{after, concerns, closes, isStep, NoneOf, stepsOf, removes, removedBy, Since}
-use Rattle.history.proofs.History.{openedBy, readBy, history}
+use Rattle.history.specs.History.{isCut, Made, made, History, noneOpen, effect, expected, counted}
+use Rattle.history.specs.Since.{concerns, closes, hasOpened, isStep, NoneOf, stepsOf, removes, removedBy, Since}
+use Rattle.history.proofs.History.{openedBy, readBy, history, expected-head}
 
--- ---- a list of expected calls, taken apart
+-- ---- the calls that count
 
-expected-head : (s : Slots) (m : Made) (ms : List Made) → expected s (m ∷ ms) ≡ m ∷ ms
-    → (m .answer ≡ act s (m .call) .answer) × (m .out ≡ act s (m .call) .out) × (expected (act s (m .call) .slots) ms ≡ ms)
-expected-head s m ms e =
-    let f : made (m .call) (act s (m .call) .answer) (act s (m .call) .out) ≡ m = cc in
-    let g : expected (act s (m .call) .slots) ms ≡ ms = cc in
+-- the same calls, as these slots answer them, all lent the whole area
+abbrev acted : Slots → List Made → List Made
+acted s [] = []
+acted s (m ∷ ms) = made (m .call) (m .lending) (act s (m .call) .answer) (act s (m .call) .out) ∷ acted (act s (m .call) .slots) ms
+
+-- the slots after them
+abbrev after : Slots → List Made → Slots
+after s [] = s
+after s (m ∷ ms) = after (act s (m .call) .slots) ms
+
+counted-acted : (s : Slots) (ms : List Made) → expected s ms ≡ ms → acted s (counted ms) ≡ counted ms
+counted-acted s [] e = refl
+counted-acted s (m ∷ ms) e =
+    let h = expected-head s m ms e in
+    go (isCut (m .lending)) (h .0) (h .1) (counted-acted (effect s (isCut (m .lending)) (m .call) .slots) ms (h .2))
+  where
+    go : (x : Bool) → m .answer ≡ effect s x (m .call) .answer → m .out ≡ effect s x (m .call) .out
+        → acted (effect s x (m .call) .slots) (counted ms) ≡ counted ms → acted s (cond x (counted ms) (m ∷ counted ms)) ≡ cond x (counted ms) (m ∷ counted ms)
+    go true a o r = r
+    go false a o r = λ i. made (m .call) (m .lending) (sym a i) (sym o i) ∷ r i
+
+acted-head : (s : Slots) (m : Made) (ms : List Made) → acted s (m ∷ ms) ≡ m ∷ ms
+    → (m .answer ≡ act s (m .call) .answer) × (m .out ≡ act s (m .call) .out) × (acted (act s (m .call) .slots) ms ≡ ms)
+acted-head s m ms e =
+    let f : made (m .call) (m .lending) (act s (m .call) .answer) (act s (m .call) .out) ≡ m = cc in
+    let g : acted (act s (m .call) .slots) ms ≡ ms = cc in
     (sym (ap (λ (x : Made). x .answer) f), sym (ap (λ (x : Made). x .out) f), g)
 
-expected-split : (s : Slots) (xs ys : List Made) → expected s (xs ++ ys) ≡ xs ++ ys → (expected s xs ≡ xs) × (expected (after s xs) ys ≡ ys)
-expected-split s [] ys e = (refl, e)
-expected-split s (x ∷ xs) ys e =
-    let h = expected-head s x (xs ++ ys) e in
-    let r = expected-split (act s (x .call) .slots) xs ys (h .2) in
-    (λ i. made (x .call) (sym (h .0) i) (sym (h .1) i) ∷ r .0 i, r .1)
+acted-split : (s : Slots) (xs ys : List Made) → acted s (xs ++ ys) ≡ xs ++ ys → (acted s xs ≡ xs) × (acted (after s xs) ys ≡ ys)
+acted-split s [] ys e = (refl, e)
+acted-split s (x ∷ xs) ys e =
+    let h = acted-head s x (xs ++ ys) e in
+    let r = acted-split (act s (x .call) .slots) xs ys (h .2) in
+    (λ i. made (x .call) (x .lending) (sym (h .0) i) (sym (h .1) i) ∷ r .0 i, r .1)
+
+-- those of a history, from any of them on
+module _ {ms : List Made} (h : History ms) (earlier rest : List Made) (among : counted ms ≡ earlier ++ rest) where
+  from-there : acted (after noneOpen earlier) rest ≡ rest
+  from-there = acted-split noneOpen earlier rest (sym (ap (acted noneOpen) among) ∙ counted-acted noneOpen ms (history h) ∙ among) .1
 
 -- ---- one call
 
@@ -150,7 +177,7 @@ module _ (k : ℕ) (there : ltb k slots ≡ true) (ps : List Point) (t : Float) 
     unfolding act numbered readSlot
     read-refuses out h = let e = lt-ltb (length out) (length (leftAfter ps t n)) h in (rw (there, held, e), rw (there, held, e))
 
-  stays-open : (s : Slots) (n : ℕ) (ms : List Made) → s k ≡ opened ps t n → NoneOf (closes k) ms → after s ms k ≡ opened ps t (n + stepsOf k ms)
+  stays-open : (s : Slots) (n : ℕ) (ms : List Made) → s k ≡ opened ps t n → NoneOf (λ m. closes k (m .call)) ms → after s ms k ≡ opened ps t (n + stepsOf k ms)
   stays-open s n [] h w = let e : n ≡ n + 0 = omega arith in h ∙ ap (opened ps t) e
   stays-open s n (m ∷ ms) h w =
       stays-open (act s (m .call) .slots) (cond (isStep k (m .call)) (suc n) n) ms (still-open s n h (m .call) (w .0)) (w .1)
@@ -170,12 +197,12 @@ module _ (k : ℕ) (there : ltb k slots ≡ true) (ps : List Point) (t : Float) 
       go none d = omega arith
       go (some c) d = omega (arith, without-times (c .current) i (leftAfter ps t n) (mid-times d))
 
-  removed-and-left : (i : ℕ) (s : Slots) (n : ℕ) (ms : List Made) → s k ≡ opened ps t n → NoneOf (closes k) ms → expected s ms ≡ ms
+  removed-and-left : (i : ℕ) (s : Slots) (n : ℕ) (ms : List Made) → s k ≡ opened ps t n → NoneOf (λ m. closes k (m .call)) ms → acted s ms ≡ ms
       → times i (removedBy k ms) + times i (leftAfter ps t (n + stepsOf k ms)) ≡ times i (leftAfter ps t n)
   removed-and-left i s n [] h w e = let z : n + 0 ≡ n = omega arith in rw z (omega arith)
   removed-and-left i s n (m ∷ ms) h w e =
       go (m .call) refl
-      (removed-and-left i (act s (m .call) .slots) (cond (isStep k (m .call)) (suc n) n) ms (still-open s n h (m .call) (w .0)) (w .1) (expected-head s m ms e .2))
+      (removed-and-left i (act s (m .call) .slots) (cond (isStep k (m .call)) (suc n) n) ms (still-open s n h (m .call) (w .0)) (w .1) (acted-head s m ms e .2))
     where
       go : (c : SlotCall) → m .call ≡ c
           → times i (removedBy k ms) + times i (leftAfter ps t (cond (isStep k c) (suc n) n + stepsOf k ms)) ≡ times i (leftAfter ps t (cond (isStep k c) (suc n) n))
@@ -192,7 +219,7 @@ module _ (k : ℕ) (there : ltb k slots ≡ true) (ps : List Point) (t : Float) 
           by-slot false g r = r
           by-slot true g r =
               let c : m .call ≡ step k = f ∙ ap step (sym (eqb-true k j g)) in
-              let a : m .answer ≡ stepAnswer (nth ps t n) = expected-head s m ms e .0 ∙ ap (λ (c : SlotCall). act s c .answer) c ∙ step-answers s n h in
+              let a : m .answer ≡ stepAnswer (nth ps t n) = acted-head s m ms e .0 ∙ ap (λ (c : SlotCall). act s c .answer) c ∙ step-answers s n h in
               let z : n + suc (stepsOf k ms) ≡ suc n + stepsOf k ms = omega arith in
               rw (times-append, a, z) (omega (arith, r, step-times i n))
       go (read j out) f r = r
@@ -202,33 +229,39 @@ module _ (k : ℕ) (there : ltb k slots ≡ true) (ps : List Point) (t : Float) 
 
 module _ {ms : List Made} (h : History ms) {k : ℕ} {us vs : List Float} {t : Float} {between : List Made} {m : Made} (o : Since ms k us vs t between m) where
   abbrev before-it : Slots
-  before-it = after allClosed (o .earlier)
+  before-it = after noneOpen (o .earlier)
 
   abbrev open-then : Slots
-  open-then = act before-it (open′ k us vs t) .slots
+  open-then = act before-it (o .opening .call) .slots
 
-  told : expected before-it (made (open′ k us vs t) done [] ∷ (between ++ (m ∷ o .later))) ≡ made (open′ k us vs t) done [] ∷ (between ++ (m ∷ o .later))
-  told =
-      expected-split allClosed (o .earlier) (made (open′ k us vs t) done [] ∷ (between ++ (m ∷ o .later)))
-      (sym (ap (expected allClosed) (o .among)) ∙ history h ∙ o .among) .1
+  abbrev now : Slots
+  now = after open-then between
 
-  opening : (ltb k slots ≡ true) × (open-then k ≡ opened (points us vs) t 0)
-  opening = opened-by before-it k us vs t (expected-head before-it (made (open′ k us vs t) done []) (between ++ (m ∷ o .later)) told .0)
+  from-opening : (o .opening .answer ≡ act before-it (o .opening .call) .answer) × (o .opening .out ≡ act before-it (o .opening .call) .out)
+      × (acted open-then (between ++ (m ∷ o .later)) ≡ between ++ (m ∷ o .later))
+  from-opening =
+      acted-head before-it (o .opening) (between ++ (m ∷ o .later)) (from-there h (o .earlier) (o .opening ∷ (between ++ (m ∷ o .later))) (o .among))
 
-  since-then : (expected open-then between ≡ between) × (expected (after open-then between) (m ∷ o .later) ≡ m ∷ o .later)
-  since-then = expected-split open-then between (m ∷ o .later) (expected-head before-it (made (open′ k us vs t) done []) (between ++ (m ∷ o .later)) told .2)
+  was-opened : (ltb k slots ≡ true) × (open-then k ≡ opened (points us vs) t 0)
+  was-opened =
+      let w = opened-by before-it k us vs t (sym (o .was-done) ∙ from-opening .0 ∙ ap (λ (c : SlotCall). act before-it c .answer) (o .opens)) in
+      (w .0, ap (λ (c : SlotCall). act before-it c .slots k) (o .opens) ∙ w .1)
 
-  held-now : after open-then between k ≡ opened (points us vs) t (stepsOf k between)
-  held-now = stays-open k (opening .0) (points us vs) t open-then 0 between (opening .1) (o .stays) ∙ ap (opened (points us vs) t) (zero-add (stepsOf k between))
+  since-then : (acted open-then between ≡ between) × (acted now (m ∷ o .later) ≡ m ∷ o .later)
+  since-then = acted-split open-then between (m ∷ o .later) (from-opening .2)
 
-  answered : (c : SlotCall) → m .call ≡ c → (m .answer ≡ act (after open-then between) c .answer) × (m .out ≡ act (after open-then between) c .out)
+  held-now : now k ≡ opened (points us vs) t (stepsOf k between)
+  held-now =
+      stays-open k (was-opened .0) (points us vs) t open-then 0 between (was-opened .1) (o .stays) ∙ ap (opened (points us vs) t) (zero-add (stepsOf k between))
+
+  answered : (c : SlotCall) → m .call ≡ c → (m .answer ≡ act now c .answer) × (m .out ≡ act now c .out)
   answered c e =
-      let w = expected-head (after open-then between) m (o .later) (since-then .1) in
-      (w .0 ∙ ap (λ (x : SlotCall). act (after open-then between) x .answer) e, w .1 ∙ ap (λ (x : SlotCall). act (after open-then between) x .out) e)
+      let w = acted-head now m (o .later) (since-then .1) in
+      (w .0 ∙ ap (λ (x : SlotCall). act now x .answer) e, w .1 ∙ ap (λ (x : SlotCall). act now x .out) e)
 
   -- the k-th step gives the k-th removal, or finished
   pub kth-step : m .call ≡ step k → m .answer ≡ stepAnswer (nth (points us vs) t (stepsOf k between))
-  kth-step e = answered (step k) e .0 ∙ step-answers k (opening .0) (points us vs) t (after open-then between) (stepsOf k between) held-now
+  kth-step e = answered (step k) e .0 ∙ step-answers k (was-opened .0) (points us vs) t now (stepsOf k between) held-now
 
   -- on n points: by step n - 1, or by step 1 where n is below 2
   pub finished-in-time : m .call ≡ step k → max 1 (length (points us vs) - 1) ≤ suc (stepsOf k between) → m .answer ≡ finished
@@ -241,19 +274,19 @@ module _ {ms : List Made} (h : History ms) {k : ℕ} {us vs : List Float} {t : F
   -- exactly the points left, or 7 where they have no room
   pub read-left : (out : List ℕ) → m .call ≡ read k out → length left-now ≤ length out → (m .answer ≡ kept (length left-now)) × (m .out ≡ over left-now out)
   read-left out e g =
-      let w = read-answers k (opening .0) (points us vs) t (after open-then between) (stepsOf k between) held-now out g in
+      let w = read-answers k (was-opened .0) (points us vs) t now (stepsOf k between) held-now out g in
       (answered (read k out) e .0 ∙ w .0, answered (read k out) e .1 ∙ w .1)
 
   pub read-short : (out : List ℕ) → m .call ≡ read k out → length out < length left-now → (m .answer ≡ refused 7 0) × (m .out ≡ out)
   read-short out e g =
-      let w = read-refuses k (opening .0) (points us vs) t (after open-then between) (stepsOf k between) held-now out g in
+      let w = read-refuses k (was-opened .0) (points us vs) t now (stepsOf k between) held-now out g in
       (answered (read k out) e .0 ∙ w .0, answered (read k out) e .1 ∙ w .1)
 
   -- the removals answered and the points left are the points opened,
   pub makes-up : (i : ℕ) → times i (removedBy k between) + times i left-now ≡ times i (all (points us vs))
   makes-up i =
       ap (λ (n : ℕ). times i (removedBy k between) + times i (leftAfter (points us vs) t n)) (sym (zero-add (stepsOf k between)))
-      ∙ removed-and-left k (opening .0) (points us vs) t i open-then 0 between (opening .1) (o .stays) (since-then .0)
+      ∙ removed-and-left k (was-opened .0) (points us vs) t i open-then 0 between (was-opened .1) (o .stays) (since-then .0)
       ∙ ap (times i) (left-zero (points us vs) t)
 
   -- and so are those answered and those that a read lists: each once, and no other
@@ -277,6 +310,27 @@ pub alone : {ms ns : List Made} → History ms → History ns → {k j : ℕ} {u
     → Since ms k us vs t bs m → Since ns j us vs t cs n → stepsOf k bs ≡ stepsOf j cs → m .call ≡ step k → n .call ≡ step j → m .answer ≡ n .answer
 alone h g {k} {j} {us} {vs} {t} o p e c d = kth-step h o c ∙ ap (λ (i : ℕ). stepAnswer (nth (points us vs) t i)) e ∙ sym (kth-step g p d)
 
+-- So too the answer to a read and what it lists, where the output held the same.
+pub alone-read : {ms ns : List Made} → History ms → History ns → {k j : ℕ} {us vs : List Float} {t : Float} {bs cs : List Made} {m n : Made}
+    → Since ms k us vs t bs m → Since ns j us vs t cs n → stepsOf k bs ≡ stepsOf j cs → (out : List ℕ) → m .call ≡ read k out → n .call ≡ read j out
+    → (m .answer ≡ n .answer) × (m .out ≡ n .out)
+alone-read h g {k} {j} {us} {vs} {t} {bs} {cs} {m} {n} o p e out c d = go (ltb (length out) (length (left (stepsOf j cs)))) refl
+  where
+    left : ℕ → List ℕ
+    left i = leftAfter (points us vs) t i
+
+    go : (x : Bool) → ltb (length out) (length (left (stepsOf j cs))) ≡ x → (m .answer ≡ n .answer) × (m .out ≡ n .out)
+    go true f =
+        let r = ltb-true (length out) (length (left (stepsOf j cs))) f in
+        let v = read-short h o out c (rw e r) in
+        let w = read-short g p out d r in
+        (v .0 ∙ sym (w .0), v .1 ∙ sym (w .1))
+    go false f =
+        let r = ltb-false (length out) (length (left (stepsOf j cs))) f in
+        let v = read-left h o out c (rw e r) in
+        let w = read-left g p out d r in
+        (v .0 ∙ ap (λ (i : ℕ). kept (length (left i))) e ∙ sym (w .0), v .1 ∙ ap (λ (i : ℕ). over (left i) out) e ∙ sym (w .1))
+
 -- ---- closed, and opened again
 
 closed-by : (s : Slots) (k : ℕ) → done ≡ act s (close k) .answer → (ltb k slots ≡ true) × (act s (close k) .slots k ≡ closed)
@@ -289,28 +343,86 @@ closed-by s k e = go (ltb k slots) refl (s k) e
     go true h closed e = absurd (let z : _≡_ {A = ℕ} 0 1 = cc in omega arith)
     go true h (opened ps t n) e = (h, rw (eqb-self k))
 
-stays-closed : (k : ℕ) (s : Slots) (ms : List Made) → s k ≡ closed → NoneOf (concerns k) ms → after s ms k ≡ closed
-stays-closed k s [] h w = h
-stays-closed k s (m ∷ ms) h w = stays-closed k (act s (m .call) .slots) ms (others-change-nothing k s (m .call) (w .0) ∙ h) (w .1)
+module _ (k : ℕ) (s : Slots) (held : s k ≡ closed) where
+  -- refused, or not there: the slots are as they were
+  open-refused : (us vs : List Float) (t : Float) → not (isRefused (act s (open′ k us vs t) .answer)) ≡ false → act s (open′ k us vs t) .slots k ≡ closed
+  unfolding act numbered openSlot
+  open-refused us vs t e = go (ltb k slots) (s k) held e
+    where
+      by-line : (n : ℕ) → not (isRefused (openedBy s k us vs t n .answer)) ≡ false → openedBy s k us vs t n .slots k ≡ closed
+      by-line zero e = absurd (true≢false e)
+      by-line (suc n) e = held
+
+      go : (x : Bool) (v : Slot) → v ≡ closed → not (isRefused (cond x (openSlot s k v us vs t) (says (refused 9 0) s) .answer)) ≡ false
+          → cond x (openSlot s k v us vs t) (says (refused 9 0) s) .slots k ≡ closed
+      go false v f e = held
+      go true closed f e = by-line (firstOf (lineRows us vs t)) e
+      go true (opened ps t′ n) f e = held
+
+  step-closed : act s (step k) .slots k ≡ closed
+  unfolding act numbered stepSlot
+  step-closed = rw held (go (ltb k slots))
+    where
+      go : (x : Bool) → cond x (stepSlot s k closed) (says (refused 9 0) s) .slots k ≡ closed
+      go true = held
+      go false = held
+
+  close-closed : act s (close k) .slots k ≡ closed
+  unfolding act numbered closeSlot
+  close-closed = rw held (go (ltb k slots))
+    where
+      go : (x : Bool) → cond x (closeSlot s k closed) (says (refused 9 0) s) .slots k ≡ closed
+      go true = held
+      go false = held
+
+  -- whatever does not open it
+  still-closed : (c : SlotCall) → hasOpened k c (act s c .answer) ≡ false → act s c .slots k ≡ closed
+  still-closed clear e = unfold act in refl
+  still-closed (open′ j us vs t) e = go (eqb k j) refl e
+    where
+      go : (x : Bool) → eqb k j ≡ x → (x && not (isRefused (act s (open′ j us vs t) .answer))) ≡ false → act s (open′ j us vs t) .slots k ≡ closed
+      go true f e =
+          subst (λ (i : ℕ). not (isRefused (act s (open′ i us vs t) .answer)) ≡ false → act s (open′ i us vs t) .slots k ≡ closed) (eqb-true k j f) (open-refused us vs t) e
+      go false f e = others-change-nothing k s (open′ j us vs t) f ∙ held
+  still-closed (step j) e = go (eqb k j) refl
+    where
+      go : (x : Bool) → eqb k j ≡ x → act s (step j) .slots k ≡ closed
+      go true f = subst (λ (i : ℕ). act s (step i) .slots k ≡ closed) (eqb-true k j f) step-closed
+      go false f = others-change-nothing k s (step j) f ∙ held
+  still-closed (read j out) e = read-keeps k s j out ∙ held
+  still-closed (close j) e = go (eqb k j) refl
+    where
+      go : (x : Bool) → eqb k j ≡ x → act s (close j) .slots k ≡ closed
+      go true f = subst (λ (i : ℕ). act s (close i) .slots k ≡ closed) (eqb-true k j f) close-closed
+      go false f = others-change-nothing k s (close j) f ∙ held
+
+stays-closed : (k : ℕ) (s : Slots) (ms : List Made) → s k ≡ closed → acted s ms ≡ ms → NoneOf (λ m. hasOpened k (m .call) (m .answer)) ms → after s ms k ≡ closed
+stays-closed k s [] h e w = h
+stays-closed k s (m ∷ ms) h e w =
+    let a = acted-head s m ms e in
+    stays-closed k (act s (m .call) .slots) ms (still-closed k s h (m .call) (ap (hasOpened k (m .call)) (sym (a .0)) ∙ w .0)) (a .2) (w .1)
 
 open-answers : (s : Slots) (k : ℕ) (us vs : List Float) (t : Float) → ltb k slots ≡ true → s k ≡ closed
-    → act s (open′ k us vs t) .answer ≡ verdict (firstOf (lineRows us vs t)) (firstOffGrid us vs)
+    → (act s (open′ k us vs t) .answer ≡ verdict (firstOf (lineRows us vs t)) (firstOffGrid us vs)) × (act s (open′ k us vs t) .out ≡ [])
 unfolding act numbered openSlot
 open-answers s k us vs t there e = rw (there, e) (go (firstOf (lineRows us vs t)))
   where
-    go : (n : ℕ) → openedBy s k us vs t n .answer ≡ verdict n (firstOffGrid us vs)
-    go zero = refl
-    go (suc n) = refl
+    go : (n : ℕ) → (openedBy s k us vs t n .answer ≡ verdict n (firstOffGrid us vs)) × (openedBy s k us vs t n .out ≡ [])
+    go zero = (refl, refl)
+    go (suc n) = (refl, refl)
 
--- A slot that was closed is opened again unless the line itself is refused. By `kth-step` its steps are then counted from that opening.
-pub anew : {ms : List Made} → History ms → (k : ℕ) (us vs : List Float) (t : Float) (earlier between later : List Made) (m : Made)
-    → counted ms ≡ earlier ++ (made (close k) done [] ∷ (between ++ (m ∷ later))) → NoneOf (concerns k) between → m .call ≡ open′ k us vs t
-    → m .answer ≡ verdict (firstOf (lineRows us vs t)) (firstOffGrid us vs)
-anew h k us vs t earlier between later m among w e =
-    let told = expected-split allClosed earlier (made (close k) done [] ∷ (between ++ (m ∷ later))) (sym (ap (expected allClosed) among) ∙ history h ∙ among) .1 in
-    let s = after allClosed earlier in
-    let c = expected-head s (made (close k) done []) (between ++ (m ∷ later)) told in
-    let d = closed-by s k (c .0) in
-    let s′ = after (act s (close k) .slots) between in
-    let f = expected-head s′ m later (expected-split (act s (close k) .slots) between (m ∷ later) (c .2) .1) in
-    f .0 ∙ ap (λ (x : SlotCall). act s′ x .answer) e ∙ open-answers s′ k us vs t (d .0) (stays-closed k (act s (close k) .slots) between (d .1) w)
+-- After a closing that was done, and no opening since, a slot is opened unless the line itself is refused. By `kth-step` its steps are counted from there.
+pub anew : {ms : List Made} → History ms → (k : ℕ) (us vs : List Float) (t : Float) (earlier between later : List Made) (closing m : Made)
+    → counted ms ≡ earlier ++ (closing ∷ (between ++ (m ∷ later))) → closing .call ≡ close k → closing .answer ≡ done
+    → NoneOf (λ c. hasOpened k (c .call) (c .answer)) between → m .call ≡ open′ k us vs t
+    → (m .answer ≡ verdict (firstOf (lineRows us vs t)) (firstOffGrid us vs)) × (m .out ≡ [])
+anew h k us vs t earlier between later closing m among c d w e =
+    let s = after noneOpen earlier in
+    let a = acted-head s closing (between ++ (m ∷ later)) (from-there h earlier (closing ∷ (between ++ (m ∷ later))) among) in
+    let b = closed-by s k (sym d ∙ a .0 ∙ ap (λ (x : SlotCall). act s x .answer) c) in
+    let s′ = act s (closing .call) .slots in
+    let f = acted-split s′ between (m ∷ later) (a .2) in
+    let g = acted-head (after s′ between) m later (f .1) in
+    let held = stays-closed k s′ between (ap (λ (x : SlotCall). act s x .slots k) c ∙ b .1) (f .0) w in
+    let v = open-answers (after s′ between) k us vs t (b .0) held in
+    (g .0 ∙ ap (λ (x : SlotCall). act (after s′ between) x .answer) e ∙ v .0, g .1 ∙ ap (λ (x : SlotCall). act (after s′ between) x .out) e ∙ v .1)

@@ -21,7 +21,8 @@ use borrow.Author.Tests.{eqb-true, ne-eqb, ltb-false}
 use Rattle.rule.specs.Grid.{Point}
 use Rattle.rule.specs.Plain.{Candidate, before, better, least, without, leave, areaAt}
 use Rattle.rule.specs.Preserve.{Minima, member, scoreOf, scoreWithin, crosses, Move, stop, remove, unlessFew, moveOf, move, demoted, ringRemovals}
-use Rattle.laws.proofs.Removals.{Given, Mid, least-mid, times, tick, eqb-self, mid-times, without-times}
+use Rattle.laws.specs.Times.{tick, times}
+use Rattle.laws.proofs.Removals.{Given, Mid, least-mid, eqb-self, mid-times, without-times}
 use Rattle.laws.proofs.Kept.{Up, up-without}
 use Rattle.laws.proofs.Least.{First, least-first}
 use Rattle.laws.proofs.RingRemovals.{followed, ring-suc}

@@ -18,7 +18,8 @@ use Rattle.rule.specs.Plain.{Candidate, indices, all, without, leave, removed, 
 use Rattle.rule.specs.Repeat.{changes, consecutive, isIn, firsts, anywhere}
 use Rattle.rule.specs.Rings.{lastOr}
 use Rattle.rule.specs.Slots.{leftAfter}
-use Rattle.laws.proofs.Removals.{Mid, times, tick, times-tail, times-append, eqb-self, OneByOne, stops, goes, one-take, removed-one, removed-few}
+use Rattle.laws.specs.Times.{tick, times}
+use Rattle.laws.proofs.Removals.{Mid, times-tail, times-append, eqb-self, OneByOne, stops, goes, one-take, removed-one, removed-few}
 
 -- ---- strictly increasing, from n on
 
@@ -72,15 +73,6 @@ below-leave hi (c ∷ cs) ks u = below-leave hi cs (without (c .current) ks) (be
 below-append : (hi : ℕ) (ks ls : List ℕ) → Below hi ks → Below hi ls → Below hi (ks ++ ls)
 below-append hi [] ls a b = b
 below-append hi (k ∷ ks) ls a b = (a .0, below-append hi ks ls (a .1) b)
-
--- each number in it is below hi
-pub below-times : (hi x : ℕ) (ks : List ℕ) → Below hi ks → 0 < times x ks → x < hi
-below-times hi x [] u h = omega arith
-below-times hi x (k ∷ ks) u h = go (eqb x k) refl h (λ (g : 0 < times x ks). below-times hi x ks (u .1) g)
-  where
-    go : (b : Bool) → eqb x k ≡ b → 0 < tick b + times x ks → (0 < times x ks → x < hi) → x < hi
-    go true e g r = omega (arith, eqb-true x k e, u .0)
-    go false e g r = r (omega arith)
 
 -- ---- strictly increasing, from lo on and below hi
 

@@ -21,6 +21,7 @@ use Rattle.rule.specs.Grid.{Point, within}
 use Rattle.rule.specs.Plain.{Candidate, before, better, least, indices, all, without, leave, areaAt, atMost, next, removals, removed, indexRule}
 use Rattle.rule.specs.Slots.{nth, leftAfter}
 use Rattle.rule.specs.SlotCalls.{lessBy}
+use Rattle.laws.specs.Times.{tick, times}
 
 -- ---- candidates of a list
 
@@ -76,14 +77,6 @@ next-mid ps t ks = go (least (areaAt ps) ks) (least-mid (areaAt ps) ks)
     go (some c) m = pick c m (within (c .score) t)
 
 -- ---- how often a number stands in a list
-
-abbrev pub tick : Bool → ℕ
-tick true = 1
-tick false = 0
-
-abbrev pub times : ℕ → List ℕ → ℕ
-times x [] = 0
-times x (k ∷ ks) = tick (eqb x k) + times x ks
 
 pub times-append : (x : ℕ) (xs ys : List ℕ) → times x (xs ++ ys) ≡ times x xs + times x ys
 times-append x [] ys = omega arith

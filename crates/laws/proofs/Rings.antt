@@ -31,7 +31,8 @@ use Rattle.rule.specs.Segment.{same}
 use Rattle.rule.specs.Plain.{Candidate, indices, all, without, leave}
 use Rattle.rule.specs.Preserve.{Minima, ofLine, ofRing, ringRemovals, ringsRemovals, leaveEach, preserveRemoved, preserve}
 use Rattle.rule.specs.Rings.{rises, lastOr, badTable, ringsFrom, isClosed, joined, endsFrom, lineRule, polygonRule}
-use Rattle.laws.proofs.Removals.{times, curs, OneByOne, stops, one-makes, length-indices, length-all}
+use Rattle.laws.specs.Times.{times}
+use Rattle.laws.proofs.Removals.{curs, OneByOne, stops, one-makes, length-indices, length-all}
 use Rattle.laws.proofs.Kept.{Up, up-from, Rising, rising-leave, rising-append, rising-indices, rising-all, Ends, one-ends, ends-all}
 use Rattle.laws.proofs.RingRemovals.{ring-one, ring-keeps, ring-stays}
 

@@ -10,7 +10,8 @@ use lib.Dec.{eqb}
 use lib.ListN.{length}
 use Rattle.rule.specs.Plain.{Candidate, without}
 use Rattle.rule.specs.Preserve.{member}
-use Rattle.laws.proofs.Removals.{Mid, times, tick, mid-length, without-length}
+use Rattle.laws.specs.Times.{tick, times}
+use Rattle.laws.proofs.Removals.{Mid, mid-length, without-length}
 use Rattle.laws.proofs.Kept.{Up}
 use Rattle.links.specs.Ring.{In, Then, Triple}
 use Rattle.links.proofs.Neighbours.{in-none, in-head, in-tail, in-cons, in-from, then-first, then-further, then-back}
