@@ -11,8 +11,8 @@ const NAMED_BY: &str = "PYLONFRITH_ARCHIVE";
 fn main() {
     println!("cargo:rerun-if-env-changed={NAMED_BY}");
     let archive = match env::var_os(NAMED_BY) {
-        Some(named) => PathBuf::from(named),
-        None => default_archive(),
+        Some(named) if !named.is_empty() => PathBuf::from(named),
+        _ => default_archive(),
     };
     println!("cargo:rerun-if-changed={}", archive.display());
     let linked = variable("OUT_DIR").join("libpylonfrith.a");
@@ -49,6 +49,6 @@ fn variable(name: &str) -> PathBuf {
 
 fn fail(what: &str) -> ! {
     eprintln!("pylonfrith: {what}");
-    eprintln!("'./pylonfrith --help' in the repository's top folder makes the archive; {NAMED_BY} names another one");
+    eprintln!("'./pylonfrith demo' in the repository's top folder makes the archive; {NAMED_BY} names another one");
     exit(1)
 }

@@ -48,41 +48,57 @@ fn style(random: &mut Random) -> Style {
     }
 }
 
+type Whole = (i64, i64);
+
+fn in_square(random: &mut Random, side: i64) -> Whole {
+    (random.from_to(0, side), random.from_to(0, side))
+}
+
+/// The next point of a list: its number, the one before it, the points drawn often and the way in which a flat run goes.
+fn next(
+    random: &mut Random,
+    style: Style,
+    at: i64,
+    last: Whole,
+    few: &[Whole],
+    direction: &mut Whole,
+) -> Whole {
+    match style {
+        Style::Square(side) => in_square(random, side),
+        Style::Walk => (
+            last.0 + random.from_to(-1, 1),
+            last.1 + random.from_to(-1, 1),
+        ),
+        Style::Flat => {
+            if random.one_in(4) {
+                *direction = (random.from_to(-2, 2), random.from_to(-2, 2));
+            }
+            let steps = random.from_to(-2, 3);
+            (last.0 + steps * direction.0, last.1 + steps * direction.1)
+        }
+        Style::Zigzag => {
+            let height = if random.one_in(6) { 2 } else { 1 };
+            (at, (at % 2) * height)
+        }
+        Style::Few => random.pick(few),
+        Style::Ends => {
+            let ends = [-END, -END, -END + 1, -1, 0, 1, END - 1, END, END];
+            (random.pick(&ends), random.pick(&ends))
+        }
+        Style::Wide => (random.from_to(-END, END), random.from_to(-END, END)),
+    }
+}
+
 fn points(random: &mut Random, style: Style, count: usize) -> Vec<Pair> {
-    let square =
-        |random: &mut Random, side: i64| (random.from_to(0, side), random.from_to(0, side));
-    let mut list: Vec<(i64, i64)> = Vec::new();
-    let few: Vec<(i64, i64)> = (0..4).map(|_| square(random, 5)).collect();
+    let mut list: Vec<Whole> = Vec::new();
+    let few: Vec<Whole> = (0..4).map(|_| in_square(random, 5)).collect();
     let mut direction = (1, 0);
     for at in 0..count {
         let last = list.last().copied().unwrap_or((0, 0));
-        list.push(match style {
-            Style::Square(side) => square(random, side),
-            Style::Walk => (
-                last.0 + random.from_to(-1, 1),
-                last.1 + random.from_to(-1, 1),
-            ),
-            Style::Flat => {
-                if random.one_in(4) {
-                    direction = (random.from_to(-2, 2), random.from_to(-2, 2));
-                }
-                let steps = random.from_to(-2, 3);
-                (last.0 + steps * direction.0, last.1 + steps * direction.1)
-            }
-            Style::Zigzag => {
-                let height = if random.one_in(6) { 2 } else { 1 };
-                (at as i64, (at as i64 % 2) * height)
-            }
-            Style::Few => random.pick(&few),
-            Style::Ends => {
-                let ends = [-END, -END, -END + 1, -1, 0, 1, END - 1, END, END];
-                (random.pick(&ends), random.pick(&ends))
-            }
-            Style::Wide => (random.from_to(-END, END), random.from_to(-END, END)),
-        });
+        let point = next(random, style, at as i64, last, &few, &mut direction);
+        list.push(point);
         if random.one_in(12) {
-            let again = *list.last().expect("just pushed");
-            list.push(again);
+            list.push(point);
         }
     }
     list.truncate(count);

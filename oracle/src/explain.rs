@@ -1,7 +1,7 @@
 //! Whether an answer of the given text, which leaves the order among equal areas open, is one that document 01's
 //! rule gives for some choice among the tied candidates.
 
-use crate::model::{crosses, least_candidates, remove_preserving, Area, Minima, Place, Tolerance};
+use crate::model::{crosses, least_candidates, remove_preserving, Minima, Place, Tolerance};
 use std::collections::{BTreeSet, HashSet};
 
 /// The plain rule has no minima and looks for no crossing.
@@ -68,17 +68,8 @@ impl Search<'_> {
             return false;
         }
         let kept = &rings[ring];
-        let untouched = match self.rule {
-            Rule::Plain => false,
-            Rule::Preserving(_) => !self.tolerance.is_above_zero() || kept.len() < 3,
-        };
-        let (area, positions) = match least_candidates(self.points, kept, &demoted) {
-            Some(least) if !untouched => least,
-            _ => (Area::MinusTolerance, Vec::new()),
-        };
-        let at_first_minimum =
-            matches!(self.rule, Rule::Preserving(minima) if kept.len() <= minima.first);
-        if positions.is_empty() || area.is_above(self.tolerance) || at_first_minimum {
+        let positions = self.choices(kept, &demoted);
+        if positions.is_empty() {
             return self.finish(ring, rings);
         }
         for at in positions {
@@ -99,6 +90,20 @@ impl Search<'_> {
             }
         }
         false
+    }
+
+    /// The positions of the tied candidates of a ring; none if the ring stops before one is tried.
+    fn choices(&self, kept: &[usize], demoted: &BTreeSet<usize>) -> Vec<usize> {
+        let stops = match self.rule {
+            Rule::Plain => false,
+            Rule::Preserving(minima) => {
+                !self.tolerance.is_above_zero() || kept.len() < 3 || kept.len() <= minima.first
+            }
+        };
+        match least_candidates(self.points, kept, demoted) {
+            Some((area, positions)) if !stops && !area.is_above(self.tolerance) => positions,
+            _ => Vec::new(),
+        }
     }
 
     fn finish(&mut self, ring: usize, rings: Vec<Vec<usize>>) -> bool {

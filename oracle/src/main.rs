@@ -162,83 +162,98 @@ fn same_list(
 }
 
 fn check_case(case: &Case, counts: &mut Counts) -> Result<(), Difference> {
-    let (points, tolerance) = (&case.line, case.tolerance);
-    let exact = Tolerance::read(tolerance).expect("a finite tolerance");
-    let at = places(points);
-    let whole = vec![points.len()];
-
-    let index = model::index_rule(&at, exact);
-    let of_line = |call, rule, run, tied: Vec<usize>, untied: Vec<usize>| Thinned {
-        call,
-        at: &at,
-        tolerance: exact,
-        table: whole.clone(),
-        rule,
-        run,
-        tied: vec![tied],
-        untied: vec![untied],
+    let exact = Tolerance::read(case.tolerance).expect("a finite tolerance");
+    let line = OneLine {
+        points: &case.line,
+        at: places(&case.line),
+        tolerance: case.tolerance,
+        exact,
     };
-    of_line(
-        "index",
-        Rule::Plain,
-        &index,
-        tied::idx(points, tolerance),
-        given::idx(points, tolerance),
-    )
-    .check(&mut counts.index)?;
-
-    let point = model::point_rule(&at, exact);
-    of_line(
-        "point",
-        Rule::Plain,
-        &point,
-        tied::kept::points(points, tolerance),
-        given::kept::points(points, tolerance),
-    )
-    .check(&mut counts.point)?;
-    same_list(
-        "point",
-        points,
-        &point.list(),
-        &tied::points(points, tolerance),
-    )?;
-
-    let line = model::preserve_line(&at, exact);
-    of_line(
-        "line",
-        Rule::Preserving(model::LINE),
-        &line,
-        tied::kept::preserve_line(points, tolerance),
-        given::kept::preserve_line(points, tolerance),
-    )
-    .check(&mut counts.line)?;
-    same_list(
-        "line",
-        points,
-        &line.list(),
-        &tied::preserve_line(points, tolerance),
-    )?;
-
+    let index = line.check_index(&mut counts.index)?;
+    line.check_point(&mut counts.point)?;
+    line.check_preserving(&mut counts.line)?;
     check_polygon(case, exact, &mut counts.polygon)?;
+    line.check_repeated(&mut counts.repeated)?;
+    check_slot(&case.line, case.tolerance, &index, &mut counts.steps)
+}
 
-    let consecutive = model::consecutive(&at);
-    let anywhere = model::anywhere(&at);
-    same_list(
-        "consecutive",
-        points,
-        &consecutive,
-        &repeated::consecutive(points),
-    )?;
-    same_list("anywhere", points, &anywhere, &repeated::anywhere(points))?;
-    if consecutive != repeated::kept::consecutive(points) {
-        return Err("consecutive: other indices".to_string());
-    }
-    if anywhere != repeated::kept::anywhere(points) {
-        return Err("anywhere: other indices".to_string());
-    }
-    counts.repeated += usize::from(anywhere.len() < points.len());
+/// The line of a case, for the calls on it.
+struct OneLine<'a> {
+    points: &'a [Pair],
+    at: Vec<Place>,
+    tolerance: f64,
+    exact: Tolerance,
+}
 
-    check_slot(points, tolerance, &index, &mut counts.steps)
+impl OneLine<'_> {
+    fn thinned<'b>(
+        &'b self,
+        call: &'b str,
+        rule: Rule,
+        run: &'b Run,
+        tied: Vec<usize>,
+        untied: Vec<usize>,
+    ) -> Thinned<'b> {
+        Thinned {
+            call,
+            at: &self.at,
+            tolerance: self.exact,
+            table: vec![self.points.len()],
+            rule,
+            run,
+            tied: vec![tied],
+            untied: vec![untied],
+        }
+    }
+
+    fn check_index(&self, seen: &mut Seen) -> Result<Run, Difference> {
+        let (points, tolerance) = (self.points, self.tolerance);
+        let run = model::index_rule(&self.at, self.exact);
+        let tied = tied::idx(points, tolerance);
+        let untied = given::idx(points, tolerance);
+        self.thinned("index", Rule::Plain, &run, tied, untied)
+            .check(seen)?;
+        Ok(run)
+    }
+
+    fn check_point(&self, seen: &mut Seen) -> Result<(), Difference> {
+        let (points, tolerance) = (self.points, self.tolerance);
+        let run = model::point_rule(&self.at, self.exact);
+        let tied = tied::kept::points(points, tolerance);
+        let untied = given::kept::points(points, tolerance);
+        self.thinned("point", Rule::Plain, &run, tied, untied)
+            .check(seen)?;
+        let listed = tied::points(points, tolerance);
+        same_list("point", points, &run.list(), &listed)
+    }
+
+    fn check_preserving(&self, seen: &mut Seen) -> Result<(), Difference> {
+        let (points, tolerance) = (self.points, self.tolerance);
+        let run = model::preserve_line(&self.at, self.exact);
+        let tied = tied::kept::preserve_line(points, tolerance);
+        let untied = given::kept::preserve_line(points, tolerance);
+        self.thinned("line", Rule::Preserving(model::LINE), &run, tied, untied)
+            .check(seen)?;
+        let listed = tied::preserve_line(points, tolerance);
+        same_list("line", points, &run.list(), &listed)
+    }
+
+    fn check_repeated(&self, with_repeats: &mut usize) -> Result<(), Difference> {
+        let points = self.points;
+        let consecutive = model::consecutive(&self.at);
+        let anywhere = model::anywhere(&self.at);
+        let listed = repeated::consecutive(points);
+        same_list("consecutive", points, &consecutive, &listed)?;
+        same_list("anywhere", points, &anywhere, &repeated::anywhere(points))?;
+        if consecutive != repeated::kept::consecutive(points) {
+            return Err("consecutive: other indices".to_string());
+        }
+        if anywhere != repeated::kept::anywhere(points) {
+            return Err("anywhere: other indices".to_string());
+        }
+        *with_repeats += usize::from(anywhere.len() < points.len());
+        Ok(())
+    }
 }
 
 fn check_polygon(case: &Case, exact: Tolerance, seen: &mut Seen) -> Result<(), Difference> {

@@ -345,42 +345,53 @@ fn preserve(
 ) -> Run {
     let mut run = Run::default();
     for ring in 0..rings.len() {
-        if !tolerance.is_above_zero() || rings[ring].len() < 3 {
-            continue;
-        }
-        let mut demoted = BTreeSet::new();
-        // 1.
-        while let Some((area, positions)) = least_candidates(points, &rings[ring], &demoted) {
-            if area.is_above(tolerance) {
-                break;
-            }
-            // 2.
-            let count = rings[ring].len();
-            if count <= minima.first {
-                run.stops_at_first_minimum += 1;
-                break;
-            }
-            run.had_tie |= positions.len() > 1;
-            // 3.
-            let at = positions[0];
-            let (left, right) = (rings[ring][at - 1], rings[ring][at + 1]);
-            let crossed = crosses(points, &rings, left, right);
-            // 4.
-            if crossed && count <= minima.second {
-                run.stops_at_second_minimum += 1;
-                break;
-            }
-            // 5.
-            let index = remove_preserving(&mut rings[ring], &mut demoted, at, crossed);
-            run.removals.push(Removal {
-                index,
-                area,
-                crossed,
-            });
+        if tolerance.is_above_zero() && rings[ring].len() >= 3 {
+            preserve_ring(points, &mut rings, ring, tolerance, minima, &mut run);
         }
     }
     run.kept = rings;
     run
+}
+
+/// One ring thinned beside the others.
+fn preserve_ring(
+    points: &[Place],
+    rings: &mut [Vec<usize>],
+    ring: usize,
+    tolerance: Tolerance,
+    minima: Minima,
+    run: &mut Run,
+) {
+    let mut demoted = BTreeSet::new();
+    // 1.
+    while let Some((area, positions)) = least_candidates(points, &rings[ring], &demoted) {
+        if area.is_above(tolerance) {
+            break;
+        }
+        // 2.
+        let count = rings[ring].len();
+        if count <= minima.first {
+            run.stops_at_first_minimum += 1;
+            break;
+        }
+        run.had_tie |= positions.len() > 1;
+        // 3.
+        let at = positions[0];
+        let (left, right) = (rings[ring][at - 1], rings[ring][at + 1]);
+        let crossed = crosses(points, rings, left, right);
+        // 4.
+        if crossed && count <= minima.second {
+            run.stops_at_second_minimum += 1;
+            break;
+        }
+        // 5.
+        let index = remove_preserving(&mut rings[ring], &mut demoted, at, crossed);
+        run.removals.push(Removal {
+            index,
+            area,
+            crossed,
+        });
+    }
 }
 
 /// The preserving rule for a line.

@@ -519,7 +519,10 @@ pub mod rstar {
             }
         }
 
-        impl<O: RTreeObject<Envelope: Clone>> RTreeObject for CachedEnvelope<O> {
+        impl<O: RTreeObject> RTreeObject for CachedEnvelope<O>
+        where
+            O::Envelope: Clone,
+        {
             type Envelope = O::Envelope;
             fn envelope(&self) -> O::Envelope {
                 self.envelope.clone()

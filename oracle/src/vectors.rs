@@ -103,7 +103,6 @@ impl Lent {
 
     /// One thing that a reason of document 01 is about, changed for the worse. It may still be accepted.
     fn with_fault(mut self, random: &mut Random) -> Lent {
-        let end = model::GRID_END;
         match random.below(if self.call.takes_scratch() { 8 } else { 4 }) {
             0 => {
                 if self.y.pop().is_none() || random.one_in(2) {
@@ -111,27 +110,7 @@ impl Lent {
                     self.x.pop();
                 }
             }
-            1 | 2 if !self.x.is_empty() && !self.y.is_empty() => {
-                let off = [
-                    0.5,
-                    -0.5,
-                    end + 1.0,
-                    -end - 1.0,
-                    end + 0.5,
-                    end - 0.5,
-                    9007199254740992.0,
-                    f64::NAN,
-                    f64::INFINITY,
-                    f64::NEG_INFINITY,
-                ];
-                let list = if random.one_in(2) {
-                    &mut self.x
-                } else {
-                    &mut self.y
-                };
-                let at = random.below(list.len());
-                list[at] = random.pick(&off);
-            }
+            1 | 2 if !self.x.is_empty() && !self.y.is_empty() => self.leave_grid(random),
             4 => self.tolerance = random.pick(&[f64::NAN, f64::INFINITY, f64::NEG_INFINITY]),
             5 if !self.rings.is_empty() => self.spoil_table(random),
             6 if !self.rings.is_empty() => self.open_ring(random),
@@ -153,6 +132,29 @@ impl Lent {
         self
     }
 
+    fn leave_grid(&mut self, random: &mut Random) {
+        let end = model::GRID_END;
+        let off = [
+            0.5,
+            -0.5,
+            end + 1.0,
+            -end - 1.0,
+            end + 0.5,
+            end - 0.5,
+            9007199254740992.0,
+            f64::NAN,
+            f64::INFINITY,
+            f64::NEG_INFINITY,
+        ];
+        let list = if random.one_in(2) {
+            &mut self.x
+        } else {
+            &mut self.y
+        };
+        let at = random.below(list.len());
+        list[at] = random.pick(&off);
+    }
+
     fn spoil_table(&mut self, random: &mut Random) {
         let last = self.rings[self.rings.len() - 1];
         let at = random.below(self.rings.len());
@@ -168,8 +170,9 @@ impl Lent {
 
     fn open_ring(&mut self, random: &mut Random) {
         let end = self.rings[random.below(self.rings.len())] as usize;
-        if let Some(last) = end.checked_sub(1) {
-            self.x[last] += 1.0;
+        // A table spoiled before may end past the points.
+        if let Some(x) = end.checked_sub(1).and_then(|last| self.x.get_mut(last)) {
+            *x += 1.0;
         }
     }
 
@@ -281,7 +284,7 @@ fn coordinate(value: f64) -> String {
     }
 }
 
-/// Checkpoints P1 to P12, and the ends of the range.
+/// Checkpoints P1 to P11.
 fn checkpoints() -> Vec<Lent> {
     let l = [(5., 2.), (3., 8.), (6., 20.), (7., 25.), (10., 10.)];
     let m = [
@@ -298,7 +301,7 @@ fn checkpoints() -> Vec<Lent> {
     let zigzag = [(0., 0.), (1., 1.), (2., 0.), (3., 1.), (4., 0.)];
     let ring = [(0., 0.), (4., 0.), (4., 4.), (0., 4.), (0., 0.)];
     let twice = [(0., 0.), (0., 0.), (1., 0.), (0., 0.)];
-    let mut list = vec![
+    vec![
         Lent::line(Call::Idx, &l, 30.0),
         Lent::line(Call::Idx, &l, 29.0),
         Lent::line(Call::Idx, &l, 28.5),
@@ -311,7 +314,12 @@ fn checkpoints() -> Vec<Lent> {
         Lent::line(Call::Polygon, &ring, 100.0),
         Lent::line(Call::Consecutive, &twice, 0.0),
         Lent::line(Call::Anywhere, &twice, 0.0),
-    ];
+    ]
+}
+
+/// For each call no points, which is P12, and the ends of the range.
+fn ends() -> Vec<Lent> {
+    let mut list = Vec::new();
     let end = model::GRID_END;
     for call in CALLS {
         list.push(Lent::line(call, &[], 1.0));
@@ -357,6 +365,7 @@ fn sizes(random: &mut Random) -> Vec<Lent> {
 pub fn vectors(seed: u64, count: usize) -> Vec<String> {
     let mut random = Random::new(seed);
     let mut list = checkpoints();
+    list.append(&mut ends());
     list.append(&mut sizes(&mut random));
     for at in 0..count {
         // The repeated points calls are simple: each gets one line in ten, the others two.

@@ -294,17 +294,28 @@ fn a_whole_call_writes_its_list_and_zeroes_its_scratch_and_no_more() {
     assert!(words[..60] == [0; 60] && words[60] == 9);
 }
 
-#[test]
-fn slots_stepped_by_turns() {
+/// An area with a float too few.
+const SHORT: AreaSize = AreaSize {
+    floats: FULL.floats - 1,
+    ..FULL
+};
+
+/// L in slot 0 at 30 and in slot 1 at 28.5.
+fn opened_twice() -> Slots {
     let (x, y): (Vec<f64>, Vec<f64>) = L.into_iter().unzip();
     let mut slots = Slots::default();
+    assert_eq!(slots.open(FULL, 0, &x, &y, 30.0), Ok(()));
+    assert_eq!(slots.open(FULL, 1, &x, &y, 28.5), Ok(()));
+    slots
+}
+
+#[test]
+fn reasons_of_slots_in_order() {
+    let x = [0.0; 5];
+    let mut slots = opened_twice();
     let mut out = [0; 5];
-    let short = AreaSize {
-        floats: FULL.floats - 1,
-        ..FULL
-    };
     assert_eq!(
-        slots.open(short, 8, &x, &[], 30.0),
+        slots.open(SHORT, 8, &x, &[], 30.0),
         Err(Reason::MemoryTooShort)
     );
     assert_eq!(slots.open(FULL, 8, &x, &[], 30.0), Err(Reason::SlotNumber));
@@ -312,29 +323,29 @@ fn slots_stepped_by_turns() {
         slots.open(FULL, 7, &x, &[], f64::NAN),
         Err(Reason::LengthsDiffer)
     );
-    assert_eq!(slots.step(FULL, 7), Err(Reason::SlotNotOpen));
-    assert_eq!(slots.read(FULL, 7, &mut out), Err(Reason::SlotNotOpen));
-    assert_eq!(slots.close(FULL, 7), Err(Reason::SlotNotOpen));
-    assert_eq!(slots.step(FULL, u32::MAX), Err(Reason::SlotNumber));
-
-    assert_eq!(slots.open(FULL, 0, &x, &y, 30.0), Ok(()));
-    assert_eq!(slots.open(FULL, 1, &x, &y, 28.5), Ok(()));
     assert_eq!(
         slots.open(FULL, 1, &x, &[], f64::NAN),
         Err(Reason::SlotOpen)
     );
-    let first = Step::Removed {
-        index: 2,
-        area: 1.5,
-    };
-    let second = Step::Removed {
-        index: 1,
-        area: 29.0,
-    };
+    assert_eq!(slots.step(FULL, 7), Err(Reason::SlotNotOpen));
+    assert_eq!(slots.read(FULL, 7, &mut out), Err(Reason::SlotNotOpen));
+    assert_eq!(slots.close(FULL, 7), Err(Reason::SlotNotOpen));
+    assert_eq!(slots.step(FULL, u32::MAX), Err(Reason::SlotNumber));
     assert_eq!(
-        (slots.step(FULL, 0), slots.step(FULL, 1)),
-        (Ok(first), Ok(first))
+        slots.read(FULL, 0, &mut out[..4]),
+        Err(Reason::OutputTooShort)
     );
+    assert_eq!(slots.clear(SHORT), Err(Reason::MemoryTooShort));
+}
+
+#[test]
+fn slots_stepped_by_turns() {
+    let mut slots = opened_twice();
+    let mut out = [0; 5];
+    let removed = |index, area| Ok(Step::Removed { index, area });
+    let finished = Ok(Step::Finished);
+    let step = |slots: &mut Slots| (slots.step(FULL, 0), slots.step(FULL, 1));
+    assert_eq!(step(&mut slots), (removed(2, 1.5), removed(2, 1.5)));
     assert_eq!(
         slots.read(FULL, 0, &mut out[..3]),
         Err(Reason::OutputTooShort)
@@ -343,21 +354,15 @@ fn slots_stepped_by_turns() {
         (slots.read(FULL, 0, &mut out), out),
         (Ok(4), [0, 1, 3, 4, 0])
     );
-    assert_eq!(
-        (slots.step(FULL, 0), slots.step(FULL, 1)),
-        (Ok(second), Ok(Step::Finished))
-    );
-    assert_eq!(
-        (slots.step(FULL, 0), slots.step(FULL, 1)),
-        (Ok(Step::Finished), Ok(Step::Finished))
-    );
+    assert_eq!(step(&mut slots), (removed(1, 29.0), finished));
+    assert_eq!(step(&mut slots), (finished, finished));
     assert_eq!(
         (slots.read(FULL, 0, &mut out), &out[..3]),
         (Ok(3), &[0, 3, 4][..])
     );
     assert_eq!(slots.close(FULL, 0), Ok(()));
     assert_eq!(slots.read(FULL, 1, &mut out), Ok(4));
-    assert_eq!(slots.clear(short), Err(Reason::MemoryTooShort));
+    assert_eq!(slots.clear(SHORT), Err(Reason::MemoryTooShort));
     assert_eq!(slots.clear(FULL), Ok(()));
     assert_eq!(slots.step(FULL, 1), Err(Reason::SlotNotOpen));
 }
@@ -402,4 +407,10 @@ fn vectors_are_the_same_each_time_and_hold_every_call() {
     for call in ["1 ", "2 ", "3 ", "4 ", "5 ", "6 "] {
         assert!(made.iter().any(|line| line.starts_with(call)));
     }
+}
+
+#[test]
+fn vectors_with_a_spoiled_table_and_an_open_ring() {
+    // From this seed a ring is opened whose end is past the points.
+    assert!(oracle::vectors::vectors(10, 400).len() > 400);
 }

@@ -323,26 +323,7 @@ fn latency(lines: &[Line]) {
     println!("| line | points | steps | median | 99th of 100 | worst | open |");
     println!("|---|---:|---:|---:|---:|---:|---:|");
     for line in lines {
-        let mut work = WorkArea::new();
-        let mut steps = Vec::new();
-        let mut opens = Vec::new();
-        for _ in 0..ROUNDS {
-            let start = Instant::now();
-            opened(&mut work, line, ALL);
-            opens.push(start.elapsed());
-            loop {
-                let start = Instant::now();
-                let step = work.step(Slot(0));
-                let time = start.elapsed();
-                match step {
-                    Ok(Step::Removed { .. }) => steps.push(time),
-                    _ => break,
-                }
-            }
-            work.close(Slot(0)).expect("open");
-        }
-        steps.sort_unstable();
-        opens.sort_unstable();
+        let (steps, opens) = step_times(line, ROUNDS);
         let at = |part: usize| steps[(steps.len() - 1) * part / 100].as_nanos();
         println!(
             "| {} | {} | {} | {} | {} | {} | {} |",
@@ -356,6 +337,31 @@ fn latency(lines: &[Line]) {
         );
     }
     println!("\nReading the clock alone: {} ns.", clock());
+}
+
+/// How long each step and each open took, in rising order.
+fn step_times(line: &Line, rounds: usize) -> (Vec<Duration>, Vec<Duration>) {
+    let mut work = WorkArea::new();
+    let mut steps = Vec::new();
+    let mut opens = Vec::new();
+    for _ in 0..rounds {
+        let start = Instant::now();
+        opened(&mut work, line, ALL);
+        opens.push(start.elapsed());
+        loop {
+            let start = Instant::now();
+            let step = work.step(Slot(0));
+            let time = start.elapsed();
+            match step {
+                Ok(Step::Removed { .. }) => steps.push(time),
+                _ => break,
+            }
+        }
+        work.close(Slot(0)).expect("open");
+    }
+    steps.sort_unstable();
+    opens.sort_unstable();
+    (steps, opens)
 }
 
 fn clock() -> u128 {

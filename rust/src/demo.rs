@@ -43,16 +43,20 @@ pub fn text() -> String {
     ));
     say("The same indices pick the depth rows that stay (samples/launch-rows.csv):\n".to_string());
     text.push_str(&table(&input, &kept));
-    text.push_str("\nA picture for a page, and every removal in order:\n");
-    let _ = writeln!(
-        text,
-        "  ./pylonfrith thin --tolerance {TOLERANCE} --svg launch.svg samples/launch.csv"
-    );
-    let _ = writeln!(
-        text,
-        "  ./pylonfrith steps --tolerance {TOLERANCE} samples/launch.csv"
-    );
+    text.push_str(&next());
     text
+}
+
+/// What to try next.
+fn next() -> String {
+    [
+        "\nA picture for a page, and every removal in order:\n".to_string(),
+        format!(
+            "  ./pylonfrith thin --tolerance {TOLERANCE} --svg launch.svg samples/launch.csv\n"
+        ),
+        format!("  ./pylonfrith steps --tolerance {TOLERANCE} samples/launch.csv\n"),
+    ]
+    .concat()
 }
 
 fn places(input: &Input, list: &[u32]) -> Vec<(f64, f64)> {

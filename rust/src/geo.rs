@@ -1,8 +1,8 @@
 //! The calls as methods of a slice of points, with the names of crate geo.
 //!
-//! A point is anything that can be copied and turned into `(f64, f64)`: the pair itself, and also geo's own `Coord<f64>` and
-//! `Point<f64>`. So a `LineString` is thinned through its field: `line.simplify_vw_idx(30.0)` becomes
-//! `line.0.simplify_vw_idx(30.0)?`.
+//! A point is anything that can be copied and turned into `(f64, f64)`: the pair itself, or a type of one's own. This is meant
+//! for geo's `Coord<f64>` and `Point<f64>` too, so that `line.simplify_vw_idx(30.0)` of a `LineString` becomes
+//! `line.0.simplify_vw_idx(30.0)?`; but nothing here is compiled against geo, so that is not tried.
 
 use crate::{
     remove_repeated_points, remove_repeated_points_anywhere, simplify_vw, simplify_vw_idx,

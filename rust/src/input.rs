@@ -45,11 +45,24 @@ pub fn name_of(source: &Source) -> String {
 pub fn short_name_of(source: &Source) -> String {
     match source {
         Source::File(path) => match path.file_name() {
-            Some(name) => name.to_string_lossy().into_owned(),
-            None => name_of(source),
+            Some(name) => legible(&name.to_string_lossy()),
+            None => legible(&name_of(source)),
         },
         Source::StandardInput => name_of(source),
     }
+}
+
+/// A text on one line, and one that XML can have: a control character or a code that is no character by its number.
+pub fn legible(text: &str) -> String {
+    let mut shown = String::new();
+    for c in text.chars() {
+        if c.is_control() || matches!(c, '\u{fffe}' | '\u{ffff}') {
+            shown.extend(c.escape_default());
+        } else {
+            shown.push(c);
+        }
+    }
+    shown
 }
 
 /// Reads the whole source.
@@ -70,7 +83,11 @@ pub fn in_words(error: &io::Error) -> String {
     match error.kind() {
         io::ErrorKind::NotFound => "no such file".to_string(),
         io::ErrorKind::PermissionDenied => "permission denied".to_string(),
-        _ => error.to_string(),
+        _ => {
+            let text = error.to_string();
+            let words = text.split(" (os error ").next().unwrap_or(&text);
+            words.to_string()
+        }
     }
 }
 

@@ -42,19 +42,24 @@ fn main() -> ExitCode {
     match answer {
         Ok(note) => {
             if let Some(note) = note {
-                eprintln!("pylonfrith: {note}");
+                tell(&note);
             }
             ExitCode::SUCCESS
         }
         Err(Failure::Refused(why)) => {
-            eprintln!("pylonfrith: {why}");
+            tell(&why);
             ExitCode::from(1)
         }
         Err(Failure::NotRead(why)) => {
-            eprintln!("pylonfrith: {why} (help: pylonfrith --help)");
+            tell(&format!("{why} (help: pylonfrith --help)"));
             ExitCode::from(2)
         }
     }
+}
+
+/// One line on standard error, whatever names and words are in it.
+fn tell(what: &str) {
+    eprintln!("pylonfrith: {}", input::legible(what));
 }
 
 /// A reader that has seen enough, as `head` has, is no failure.
@@ -78,36 +83,46 @@ fn answer(command: Command) -> Result<Answer, Failure> {
             rule,
             svg,
             source,
-        } => {
-            let input = input::read(&source)?;
-            let kept = thin(&input, tolerance, rule)
-                .map_err(|refusal| refused(refusal, &input, &source))?;
-            if let Some(path) = svg {
-                let title = format!(
-                    "{}, tolerance {tolerance} cm\u{b2}",
-                    input::short_name_of(&source)
-                );
-                write_picture(&path, &picture::page(&input, &kept, rule, &title))?;
-            }
-            Ok(with_note(rings_of(&kept), &input, &source))
-        }
-        Command::Repeats { anywhere, source } => {
-            let input = input::read(&source)?;
-            let kept = if anywhere {
-                pylonfrith::remove_repeated_points_anywhere(&input.x, &input.y)
-            } else {
-                pylonfrith::remove_repeated_points(&input.x, &input.y)
-            };
-            let kept = kept.map_err(|refusal| refused(refusal, &input, &source))?;
-            Ok(with_note(list_of(&kept), &input, &source))
-        }
-        Command::Steps { tolerance, source } => {
-            let input = input::read(&source)?;
-            let text =
-                steps(&input, tolerance).map_err(|refusal| refused(refusal, &input, &source))?;
-            Ok(with_note(text, &input, &source))
-        }
+        } => answer_thin(tolerance, rule, svg.as_deref(), &source),
+        Command::Repeats { anywhere, source } => answer_repeats(anywhere, &source),
+        Command::Steps { tolerance, source } => answer_steps(tolerance, &source),
     }
+}
+
+fn answer_thin(
+    tolerance: f64,
+    rule: Rule,
+    svg: Option<&Path>,
+    source: &Source,
+) -> Result<Answer, Failure> {
+    if let Some(path) = svg {
+        spare_input(path, source)?;
+    }
+    let input = input::read(source)?;
+    let kept = thin(&input, tolerance, rule).map_err(|refusal| refused(refusal, &input, source))?;
+    if let Some(path) = svg {
+        let name = input::short_name_of(source);
+        let title = format!("{name}, tolerance {} cm\u{b2}", shown(tolerance));
+        write_picture(path, &picture::page(&input, &kept, rule, &title))?;
+    }
+    Ok(with_note(rings_of(&kept), &input, source))
+}
+
+fn answer_repeats(anywhere: bool, source: &Source) -> Result<Answer, Failure> {
+    let input = input::read(source)?;
+    let kept = if anywhere {
+        pylonfrith::remove_repeated_points_anywhere(&input.x, &input.y)
+    } else {
+        pylonfrith::remove_repeated_points(&input.x, &input.y)
+    };
+    let kept = kept.map_err(|refusal| refused(refusal, &input, source))?;
+    Ok(with_note(list_of(&kept), &input, source))
+}
+
+fn answer_steps(tolerance: f64, source: &Source) -> Result<Answer, Failure> {
+    let input = input::read(source)?;
+    let text = steps(&input, tolerance).map_err(|refusal| refused(refusal, &input, source))?;
+    Ok(with_note(text, &input, source))
 }
 
 fn plain(text: String) -> Answer {
@@ -165,6 +180,22 @@ fn rings_of(kept: &Kept) -> String {
     lists.collect::<Vec<_>>().join("\n")
 }
 
+/// A picture in the input's own place would destroy the input.
+fn spare_input(picture: &Path, source: &Source) -> Result<(), Failure> {
+    let file = match source {
+        Source::File(file) => file,
+        Source::StandardInput => return Ok(()),
+    };
+    let whole = |path: &Path| path.canonicalize().unwrap_or_else(|_| path.to_path_buf());
+    if whole(picture) != whole(file) {
+        return Ok(());
+    }
+    Err(Failure::NotRead(format!(
+        "--svg '{}' is the input file, which it would overwrite",
+        picture.display()
+    )))
+}
+
 fn write_picture(path: &Path, picture: &str) -> Result<(), Failure> {
     std::fs::write(path, picture).map_err(|error| {
         Failure::NotRead(format!("{}: {}", path.display(), input::in_words(&error)))
@@ -173,44 +204,56 @@ fn write_picture(path: &Path, picture: &str) -> Result<(), Failure> {
 
 /// A refusal with the line of the input at fault, and what to do.
 fn refused(refusal: Refusal, input: &Input, source: &Source) -> Failure {
-    let name = input::name_of(source);
-    let line = |at: usize| input.lines.get(at).copied().unwrap_or(0);
-    let why = match refusal {
-        Refusal::TooManyPoints => format!(
-            "{name}, line {}: refused, reason 2: this is point 4,097 of {}; a line has at most 4,096, so give it in parts",
-            line(POINTS),
-            input.len()
-        ),
-        Refusal::OffGrid(PointIndex(point)) => {
-            let at = point as usize;
-            format!(
-                "{name}, line {}: refused, reason 3: {},{} is off the grid; give whole centimetres from -16,777,216 to 16,777,216",
-                line(at),
-                input.x[at],
-                input.y[at]
-            )
-        }
-        Refusal::ToleranceNotFinite => {
+    let (name, number) = (input::name_of(source), refusal.number());
+    Failure::Refused(match fault(refusal, input) {
+        Some((line, what)) => format!("{name}, line {line}: refused, reason {number}: {what}"),
+        None if refusal == Refusal::ToleranceNotFinite => {
             "--tolerance: refused, reason 4: it is NaN or infinite; give an area in square centimetres".to_string()
         }
+        None => format!("{name}: refused, {refusal}"),
+    })
+}
+
+/// The line at fault, where a line is, and what is wrong there.
+fn fault(refusal: Refusal, input: &Input) -> Option<(usize, String)> {
+    let line = |at: usize| input.lines.get(at).copied().unwrap_or(0);
+    let (at, what) = match refusal {
+        Refusal::TooManyPoints => {
+            let count = input.len();
+            (
+                POINTS,
+                format!(
+                    "this is point 4,097 of {count}; a line has at most 4,096, so give it in parts"
+                ),
+            )
+        }
+        Refusal::OffGrid(PointIndex(point)) => {
+            let at = point as usize;
+            let (x, y) = (shown(input.x[at]), shown(input.y[at]));
+            (at, format!("{x},{y} is off the grid; give whole centimetres from -16,777,216 to 16,777,216"))
+        }
         Refusal::RingTable => {
-            let at = input.ring_ranges().get(RINGS).map_or(0, |ring| line(ring.start));
-            format!(
-                "{name}, line {at}: refused, reason 5: ring 65 of {} starts here; a polygon has at most 64",
-                input.rings.len()
+            let count = input.rings.len();
+            let at = input.ring_ranges().get(RINGS)?.start;
+            (
+                at,
+                format!("ring 65 of {count} starts here; a polygon has at most 64"),
             )
         }
         Refusal::RingNotClosed => {
-            let (first, last) = open_ring(input).unwrap_or((0, 0));
-            format!(
-                "{name}, line {}: refused, reason 6: the ring that starts on line {} ends here on another point; end it on its first one",
-                line(last),
-                line(first)
-            )
+            let (first, last) = open_ring(input)?;
+            let start = line(first);
+            (last, format!("the ring that starts on line {start} ends here on another point; end it on its first one"))
         }
-        other => format!("{name}: refused, {other}"),
+        _ => return None,
     };
-    Failure::Refused(why)
+    Some((line(at), what))
+}
+
+/// A number in few characters: 3, 0.5, 1e308.
+fn shown(number: f64) -> String {
+    let text = format!("{number:?}");
+    text.strip_suffix(".0").unwrap_or(&text).to_string()
 }
 
 /// The first and the last point of the first ring that is not closed.

@@ -102,43 +102,50 @@ fn gather(
         let text = word.to_string_lossy().into_owned();
         if only_files || text == "-" || !text.starts_with('-') {
             place(&mut given.file, word, command, takes)?;
-            continue;
-        }
-        if text == "--" {
+        } else if text == "--" {
             only_files = true;
-            continue;
-        }
-        if text == "--help" || text == "-h" {
+        } else if text == "--help" || text == "-h" {
             given.help = true;
-            continue;
-        }
-        let (name, joined) = match text.split_once('=') {
-            Some((name, value)) => (name.to_string(), Some(OsString::from(value))),
-            None => (text, None),
-        };
-        if !takes.contains(&name.as_str()) {
-            return Err(unread(&format!("'{command}' has no option '{name}'")));
-        }
-        if name == "--anywhere" {
-            if joined.is_some() {
-                return Err(unread("'--anywhere' takes no value"));
+        } else {
+            let (name, joined) = match text.split_once('=') {
+                Some((name, value)) => (name, Some(OsString::from(value))),
+                None => (text.as_str(), None),
+            };
+            if !takes.contains(&name) {
+                return Err(unread(&format!("'{command}' has no option '{name}'")));
             }
-            given.anywhere = true;
-            continue;
-        }
-        let value = joined
-            .or_else(|| words.next())
-            .ok_or_else(|| unread(&format!("'{name}' needs a value after it")))?;
-        let option = match name.as_str() {
-            "--tolerance" => &mut given.tolerance,
-            "--rule" => &mut given.rule,
-            _ => &mut given.svg,
-        };
-        if option.replace(value).is_some() {
-            return Err(unread(&format!("'{name}' is given twice")));
+            set(&mut given, name, joined, &mut words)?;
         }
     }
     Ok(given)
+}
+
+/// Takes an option with its value, which is joined to it or is the next word.
+fn set(
+    given: &mut Given,
+    name: &str,
+    joined: Option<OsString>,
+    words: &mut impl Iterator<Item = OsString>,
+) -> Result<(), Failure> {
+    if name == "--anywhere" {
+        if joined.is_some() {
+            return Err(unread("'--anywhere' takes no value"));
+        }
+        given.anywhere = true;
+        return Ok(());
+    }
+    let value = joined
+        .or_else(|| words.next())
+        .ok_or_else(|| unread(&format!("'{name}' needs a value after it")))?;
+    let option = match name {
+        "--tolerance" => &mut given.tolerance,
+        "--rule" => &mut given.rule,
+        _ => &mut given.svg,
+    };
+    match option.replace(value) {
+        None => Ok(()),
+        Some(_) => Err(unread(&format!("'{name}' is given twice"))),
+    }
 }
 
 /// Takes a word as the file.

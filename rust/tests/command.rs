@@ -189,6 +189,55 @@ fn a_picture_that_cannot_be_written() {
     );
 }
 
+/// The input file is spared, by whatever name the picture has it.
+#[test]
+fn a_picture_over_the_input() {
+    let path = file("survey.csv", L);
+    let here = folder().join(".").join("survey.csv");
+    let link = folder().join("survey.svg");
+    let _ = fs::remove_file(&link);
+    std::os::unix::fs::symlink(&path, &link).expect("a link");
+    for svg in [
+        &path,
+        here.to_str().expect("text"),
+        link.to_str().expect("text"),
+    ] {
+        let words = ["thin", "--tolerance", "30", "--svg", svg, &path];
+        fails(&words, "", 2, &["--svg", "is the input file"]);
+        assert_eq!(fs::read_to_string(&path).expect("there"), L);
+    }
+}
+
+/// A name with control characters is shown with their numbers: on one line, and in a picture that can be parsed.
+#[test]
+fn names_with_control_characters() {
+    let path = file("two\nlines\u{1}\u{ffff}.csv", "0.5,0\n");
+    let parts = ["two\\nlines\\u{1}\\u{ffff}.csv, line 1"];
+    fails(&["repeats", &path], "", 1, &parts);
+    fails(
+        &["repeats", "no\nsuch"],
+        "",
+        2,
+        &["no\\nsuch: no such file"],
+    );
+    fails(&["th\nin"], "", 2, &["'th\\nin'"]);
+
+    let path = file("two\nlines\u{1}\u{ffff}.csv", L);
+    let svg = folder().join("named.svg");
+    let words = [
+        "thin",
+        "--tolerance",
+        "30",
+        "--svg",
+        svg.to_str().expect("text"),
+        &path,
+    ];
+    answers(&words, "", "0\n3\n4\n");
+    let picture = fs::read_to_string(svg).expect("a picture");
+    assert!(picture.contains("<title>two\\nlines\\u{1}\\u{ffff}.csv, tolerance 30 "));
+    assert!(!picture.contains(['\u{1}', '\u{ffff}']));
+}
+
 #[test]
 fn demo_and_help() {
     let demo = run(&["demo"], "");
@@ -209,6 +258,22 @@ fn demo_and_help() {
         &["steps", "-h"],
     ] {
         answers(words, "", &help);
+    }
+}
+
+/// The script in the top folder tells the same, and makes nothing for it: no archive is there that it could use.
+#[test]
+fn help_from_the_script() {
+    let script = format!("{}/../pylonfrith", env!("CARGO_MANIFEST_DIR"));
+    for word in ["--help", "-h", "help"] {
+        let output = Command::new(&script)
+            .arg(word)
+            .env("PYLONFRITH_ARCHIVE", "/no/such/archive")
+            .output()
+            .expect("the script starts");
+        assert_eq!(output.status.code(), Some(0), "{word}");
+        assert_eq!(text(&output.stdout), text(&run(&[word], "").stdout));
+        assert_eq!(text(&output.stderr), "");
     }
 }
 
@@ -233,6 +298,18 @@ fn off_the_grid() {
         fails(&["steps", "--tolerance", "30"], &input, 1, &parts);
     }
     answers(&words, "16777216,-16777216\n", "0\n");
+}
+
+#[test]
+fn numbers_are_told_in_few_characters() {
+    for (input, told) in [
+        ("1e308,2\n", ": 1e308,2 is off"),
+        ("-7,5e-324\n", ": -7,5e-324 is off"),
+        ("16777217,-0\n", ": 16777217,-0 is off"),
+        ("0.25,nan\n", ": 0.25,NaN is off"),
+    ] {
+        fails(&["repeats"], input, 1, &[told]);
+    }
 }
 
 #[test]
@@ -281,7 +358,7 @@ fn no_such_file() {
         &["repeats", here.to_str().expect("text")],
         "",
         2,
-        &["command: "],
+        &["command: Is a directory (help"],
     );
 }
 
