@@ -1,3 +1,4 @@
 pub mod History
 pub mod Since
 pub mod Pins
+pub mod Contracts
