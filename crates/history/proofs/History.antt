@@ -1,7 +1,8 @@
 -- The history theorem: from a clear on, whatever the calls, all answers and outputs are those of the slots as a reader thinks of them. Assumes nothing.
---     history        all answers and outputs are as expected
---     cut-short      a call that is lent the area cut short is refused with 8, and its output is as it was
---     not-cut        no other call is
+--     history-begins     there is a history of every area
+--     history            all answers and outputs are as expected
+--     cut-short          a call that is lent the area cut short is refused with 8, and its output is as it was
+--     not-cut            no other call is
 use mathlib.Core.Path.{_≡_, refl, sym, ap, _∙_, subst}
 use mathlib.Core.Logic.{_≢_}
 use mathlib.Core.Bool.{Bool, true, false, not, _||_, cond, true≢false}
@@ -19,13 +20,14 @@ use Rattle.rule.specs.Sizes.{mostPoints, slots, slotFloats, slotWords, areaFloa
 use Rattle.rule.specs.Grid.{Point, points, isFinite}
 use Rattle.rule.specs.Plain.{Candidate}
 use Rattle.rule.specs.Answers.{Answer, done, kept, removal, finished, refused}
-use Rattle.rule.specs.Area.{Area, piece, part, isOpen}
+use Rattle.rule.specs.Area.{Area, piece, part, isOpen, area, zeroed}
 use Rattle.rule.specs.Reasons.{firstOffGrid, isSome, firstOf, lineRows, refusal, areaShort, clearReason, openReason, slotReason}
 use Rattle.rule.specs.Slots.{Slot, closed, opened, Slots, put, nth, leftAfter, stepAnswer, SlotCall, clear, open′, step, read, close, Effect, says}
 use Rattle.rule.specs.Slots.{openSlot, stepSlot, readSlot, closeSlot, numbered, act}
 use Rattle.rule.specs.Whole.{over}
 use Rattle.rule.specs.SlotCalls.{Clears}
 use Rattle.rule.proofs.Parts.{Long, long, piece-length, piece-at}
+use Rattle.rule.proofs.Settled.{call-done}
 use Rattle.laws.proofs.History.{Holds, Sim, Agrees, clear-agrees, open-agrees, step-agrees, read-agrees, close-agrees}
 use Rattle.part.specs.Rep.{Rep}
 use Rattle.history.specs.History.{Sized, Lending, isCut, front, renewed, lentArea, leftArea, Made, made, States, Run, ends, calls, History}
@@ -277,6 +279,25 @@ from-clear d a b ms z c r = go (areaShort (lentArea d a) .applies) refl
         let k = clear-agrees Rep noneOpen (lentArea d a) b done (long (lentArea d a) e) c .keeps in
         let y = left-sized d a z b (k .sized) in
         run-expected noneOpen (leftArea d a b) ms y (agree-parts noneOpen b (leftArea d a b) (sized-long y) (left-part d a z b (k .sized)) k) r
+
+clear-0 : (a : Area) → areaShort a .applies ≡ false → clearReason a ≡ 0
+unfolding clearReason
+clear-0 a e = rw e
+
+-- There is a history of every area: it is lent as it is, and cleared.
+pub history-begins : (a : Area) → Sized a → History []
+history-begins a z =
+    record {
+      start = a;
+      sized = z;
+      lending = whole;
+      left = zeroed (lentArea whole a);
+      cleared = call-done (clear-0 (lentArea whole a) (sym (cut-is-short whole a z))) refl refl;
+      run = ends;
+    }
+  where
+    whole : Lending
+    whole = record { floats = areaFloats; words = areaWords; behind = area [] [] }
 
 -- From a clear on, all calls are answered, and list, as a reader expects.
 pub history : {ms : List Made} → History ms → expected noneOpen ms ≡ ms

@@ -53,7 +53,7 @@ module _ (Rep : Area → List Point → Float → List ℕ → Type 0) (k : ℕ)
       same : c .answer ≡ d .answer → (m ≡ n) × (f ≡ g)
       same e = (same-number c d (ap ofStep e), c .allows .1 ∙ ap (λ (r : Answer). areaAfter r old) (ap ofStep e) ∙ sym (d .allows .1))
 
-  -- the number, so too; the output as in Rattle
+  -- the number, wherever the calls have made the part, and where 8, 9 or 11 applies; the output as in Rattle
   pub record ReadForC (c d : Listing) (m n : ℕ) (p q : List ℕ) : Type 0 where
     pub made : (ps : List Point) (t : Float) (ks : List ℕ) → Rep (part k a) ps t ks → m ≡ n
     pub refused : (i : ℕ) → slotReason k a ≡ suc i → m ≡ n
