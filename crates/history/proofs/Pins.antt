@@ -3,11 +3,11 @@ use mathlib.Core.Path.{_≡_, refl}
 use mathlib.Core.Bool.{true, false}
 use mathlib.Core.List.{List, [], _∷_, _++_, map}
 use Prim.Native.Nat.{ℕ}
-use lib.Ieee.{Float}
 use Rattle.rule.specs.Checkpoints.{whole, halfOf}
 use Rattle.rule.specs.Answers.{done, kept, removal, finished, refused}
 use Rattle.rule.specs.Area.{area}
 use Rattle.rule.specs.Slots.{SlotCall, clear, open′, step, read, close, act}
+use Rattle.rule.proofs.Script.{xs, ys, six}
 use Rattle.history.specs.History.{Lending, isCut, front, renewed, lentArea, leftArea, Made, made, noneOpen, outputOf, expected, counted}
 use Rattle.history.specs.Since.{concerns, closes, hasOpened, isStep, NoneOf, stepsOf, removes, removedBy, Since}
 
@@ -52,17 +52,7 @@ left-row = refl
 
 -- ---- tests of a call
 
--- L of document 01: point 2 goes first, with an area of 1.5, then point 1, with one of 29
-abbrev xs : List Float
-xs = whole 5 ∷ whole 3 ∷ whole 6 ∷ whole 7 ∷ whole 10 ∷ []
-
-abbrev ys : List Float
-ys = whole 2 ∷ whole 8 ∷ whole 20 ∷ whole 25 ∷ whole 10 ∷ []
-
-abbrev six : List ℕ
-six = 9 ∷ 9 ∷ 9 ∷ 9 ∷ 9 ∷ 9 ∷ []
-
--- each call on slot 1, and on slot 2
+-- each call on slot 1, and on slot 2; xs and ys are L of document 01
 abbrev every : List SlotCall
 every = clear ∷ open′ 1 xs ys (whole 30) ∷ open′ 2 xs ys (whole 30) ∷ step 1 ∷ step 2 ∷ read 1 six ∷ read 2 six ∷ close 1 ∷ close 2 ∷ []
 

@@ -22,7 +22,7 @@ use Rattle.rule.specs.Grid.{Point, points}
 use Rattle.rule.specs.Plain.{Candidate, areaAt, next, all}
 use Rattle.rule.specs.Answers.{done, kept, finished, refused}
 use Rattle.rule.specs.Reasons.{firstOffGrid, firstOf, lineRows}
-use Rattle.rule.specs.Slots.{Slot, closed, opened, Slots, nth, leftAfter, stepAnswer, SlotCall, clear, open′, step, read, close, says}
+use Rattle.rule.specs.Slots.{Slot, closed, opened, Slots, nth, leftAfter, stepAnswer, SlotCall, clear, open′, step, read, close, Effect, says}
 use Rattle.rule.specs.Slots.{openSlot, stepSlot, readSlot, closeSlot, numbered, act}
 use Rattle.rule.specs.SlotCalls.{isRefused, lessBy}
 use Rattle.rule.specs.Whole.{over}
@@ -359,21 +359,18 @@ module _ (k : ℕ) (s : Slots) (held : s k ≡ closed) where
       go true closed f e = by-line (firstOf (lineRows us vs t)) e
       go true (opened ps t′ n) f e = held
 
+  -- a slot that is not there is not opened
+  there : (e : Effect) → e .slots k ≡ closed → (x : Bool) → cond x e (says (refused 9 0) s) .slots k ≡ closed
+  there e h true = h
+  there e h false = held
+
   step-closed : act s (step k) .slots k ≡ closed
   unfolding act numbered stepSlot
-  step-closed = rw held (go (ltb k slots))
-    where
-      go : (x : Bool) → cond x (stepSlot s k closed) (says (refused 9 0) s) .slots k ≡ closed
-      go true = held
-      go false = held
+  step-closed = rw held (there (stepSlot s k closed) held (ltb k slots))
 
   close-closed : act s (close k) .slots k ≡ closed
   unfolding act numbered closeSlot
-  close-closed = rw held (go (ltb k slots))
-    where
-      go : (x : Bool) → cond x (closeSlot s k closed) (says (refused 9 0) s) .slots k ≡ closed
-      go true = held
-      go false = held
+  close-closed = rw held (there (closeSlot s k closed) held (ltb k slots))
 
   -- whatever does not open it
   still-closed : (c : SlotCall) → hasOpened k c (act s c .answer) ≡ false → act s c .slots k ≡ closed

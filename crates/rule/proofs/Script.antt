@@ -27,13 +27,13 @@ played s [] = []
 played s (l ∷ ls) = let e = act s (l .call) in record { answer = e .answer; out = e .out } ∷ played (e .slots) ls
 
 -- L of document 01: point 2 goes first, with an area of 1.5, then point 1, with one of 29
-abbrev xs : List Float
+abbrev pub xs : List Float
 xs = whole 5 ∷ whole 3 ∷ whole 6 ∷ whole 7 ∷ whole 10 ∷ []
 
-abbrev ys : List Float
+abbrev pub ys : List Float
 ys = whole 2 ∷ whole 8 ∷ whole 20 ∷ whole 25 ∷ whole 10 ∷ []
 
-abbrev six : List ℕ
+abbrev pub six : List ℕ
 six = 9 ∷ 9 ∷ 9 ∷ 9 ∷ 9 ∷ 9 ∷ []
 
 abbrev script : List Line
