@@ -1,4 +1,4 @@
--- The scan over the links finds what the rule's `crosses` finds over the lists of kept points. Assumes nothing.
+-- What the links say of present segments is what the rule's `crosses` says over the lists of kept points. Assumes nothing.
 use mathlib.Core.Path.{_≡_, refl, sym, ap, _∙_, subst}
 use mathlib.Core.Bool.{Bool, true, false, _||_, or-true, false≢true}
 use mathlib.Core.List.{List, [], _∷_, _++_}
@@ -12,12 +12,13 @@ use Rattle.rule.specs.Preserve.{against, againstRing, crosses}
 use Rattle.laws.proofs.Kept.{Up}
 use Rattle.layout.specs.declared.Layout.{Layout}
 use Rattle.layout.specs.Points.{PlacedIn}
-use Rattle.links.specs.Words.{nextAt, markAt}
+use Rattle.links.specs.Words.{nextAt, markAt, Starts}
 use Rattle.links.specs.Ring.{In, Then, Rings}
 use Rattle.links.proofs.Neighbours.{in-none, in-cons, then-first, then-further, then-back, next-unique}
 use Rattle.links.proofs.Ring.{ring-in, in-ring, ring-below, ring-up, next-is, is-next}
 use Rattle.segment.specs.Against.{opposed}
-use Rattle.crossing.specs.Crossing.{Starts, AgainstAt, StandsIs, CrossesIs}
+use Rattle.crossing.specs.Crossing.{AgainstAt, StandsIs}
+use Rattle.crossing.specs.Passing.{Crosses}
 
 -- ---- one ring
 
@@ -61,7 +62,7 @@ module _ (ps : List Point) (l r : ℕ) where
         go (yes w) rec = rw (ring-true 0 ks i (nextAt ws m i) (ring-up (h .0)) (is-next (h .0) (in-ring (h .0) i p w (s .kept)) (s .ahead)) e)
         go (no w) rec = rw (rec (omega arith)) (or-true (againstRing ps l r ks))
 
-    rings-false : (lo : ℕ) (ends : List ℕ) (kss : List (List ℕ)) → Rings ws m lo (m .points) ends kss
+    pub rings-false : (lo : ℕ) (ends : List ℕ) (kss : List (List ℕ)) → Rings ws m lo (m .points) ends kss
         → ((i : ℕ) → i < m .points → Starts ws m i → against ps l r i (nextAt ws m i) ≡ false) → crosses ps l r kss ≡ false
     unfolding crosses
     rings-false lo [] [] h f = refl
@@ -86,40 +87,6 @@ module _ (ps : List Point) (l r : ℕ) where
       swap true false c = refl
       swap false b c = refl
 
--- ---- the scan
-
--- no present segment that starts below point i is against the new one
-pub record Scan (m : Layout) (us vs : List Float) (ws : List ℕ) (l r i : ℕ) : Type 0 where
-  pub low : i ≤ m .points
-  pub none : (k : ℕ) → k < i → Starts ws m k → (ps : List Point) → PlacedIn us vs m ps → against ps l r k (nextAt ws m k) ≡ false
-
-module _ (m : Layout) (us vs : List Float) (ws : List ℕ) (l r : ℕ) where
-  pub scan-start : Scan m us vs ws l r 0
-  scan-start = record { low = omega arith; none = λ k h. absurd (omega arith) }
-
-  pub scan-end : (i : ℕ) → Scan m us vs ws l r i → m .points ≤ i → CrossesIs m us vs ws l r false
-  scan-end i s h ps ends kss p rs = sym (rings-false ps l r ws m 0 ends kss rs (λ k q st. s .none k (omega arith) st ps p))
-
-  module _ (hl : l < m .points) (hr : r < m .points) (i : ℕ) (hi : i < m .points) (b : Bool) (h : StandsIs m us vs ws i l r b) where
-    stands : (s : Starts ws m i) (ps : List Point) → PlacedIn us vs m ps → against ps l r i (nextAt ws m i) ≡ b
-    unfolding against
-    stands s ps p =
-        let j = nextAt ws m i in
-        (λ k. opposed (p .is i hi k) (p .is j (s .ahead) k) (p .is l hl k) (p .is r hr k))
-        ∙ sym (h .stands s (p .on i hi) (p .on j (s .ahead)) (p .on l hl) (p .on r hr))
-
-    pub scan-found : b ≡ true → CrossesIs m us vs ws l r true
-    scan-found e ps ends kss p rs = sym (rings-true ps l r ws m 0 ends kss rs i (omega arith) hi (h .starts e) (stands (h .starts e) ps p ∙ e))
-
-    pub scan-more : Scan m us vs ws l r i → b ≡ false → Scan m us vs ws l r (i + 1)
-    scan-more s e = record { low = omega arith; none = λ k q st ps p. go k q st ps p (decLt k i) }
-      where
-        go : (k : ℕ) → k < i + 1 → Starts ws m k → (ps : List Point) → PlacedIn us vs m ps → Dec (k < i) → against ps l r k (nextAt ws m k) ≡ false
-        go k q st ps p (yes w) = s .none k w st ps p
-        go k q st ps p (no w) =
-            let z : i ≡ k = omega arith in
-            subst (λ (j : ℕ). Starts ws m j → against ps l r j (nextAt ws m j) ≡ false) z (λ v. stands v ps p ∙ e) st
-
 -- ---- one point
 
 module _ {m : Layout} {us vs : List Float} {ws : List ℕ} {i l r : ℕ} where
@@ -128,8 +95,20 @@ module _ {m : Layout} {us vs : List Float} {ws : List ℕ} {i l r : ℕ} where
   none-starts h = record { starts = λ e. absurd (false≢true e); stands = λ s. absurd (h s) }
 
   -- one starts, and ends at j
-  pub one-starts : {j : ℕ} {b : Bool} → markAt ws m i ≡ 0 → j ≡ nextAt ws m i → j < m .points → AgainstAt m us vs i j l r b → StandsIs m us vs ws i l r b
-  one-starts {j} {b} k e h f = record {
+  pub one-starts : {j : ℕ} {c : Bool} → markAt ws m i ≡ 0 → j ≡ nextAt ws m i → j < m .points → AgainstAt m us vs i j l r c → StandsIs m us vs ws i l r c
+  one-starts {j} {c} k e h f = record {
     starts = λ z. record { kept = k; ahead = omega arith };
-    stands = λ s. subst (λ (o : ℕ). AgainstAt m us vs i o l r b) e f;
+    stands = λ s. subst (λ (o : ℕ). AgainstAt m us vs i o l r c) e f;
   }
+
+module _ (m : Layout) (us vs : List Float) (ws : List ℕ) (l r : ℕ) (hl : l < m .points) (hr : r < m .points) {i : ℕ} (hi : i < m .points) {c : Bool}
+    (h : StandsIs m us vs ws i l r c) where
+  pub stands-as : (ps : List Point) → PlacedIn us vs m ps → Starts ws m i → against ps l r i (nextAt ws m i) ≡ c
+  unfolding against
+  stands-as ps p s =
+      let j = nextAt ws m i in
+      (λ k. opposed (p .is i hi k) (p .is j (s .ahead) k) (p .is l hl k) (p .is r hr k))
+      ∙ sym (h .stands s (p .on i hi) (p .on j (s .ahead)) (p .on l hl) (p .on r hr))
+
+  pub stands-crosses : c ≡ true → Crosses m us vs ws l r
+  stands-crosses e ps ends kss p rs = rings-true ps l r ws m 0 ends kss rs i (omega arith) hi (h .starts e) (stands-as ps p (h .starts e) ∙ e)

@@ -1,31 +1,135 @@
-// Does a new segment cross a present one: a scan over the links of all rings.
-ghost use Prim.Native.Nat.{_<_};
+// Does a new segment cross a present one: the links of all rings are walked, but for the blocks whose box is apart from the new segment's.
+ghost use mathlib.Core.Path.{_≡_};
+ghost use Prim.Native.Nat.{_<_, _≤_};
 ghost use Rattle.layout.specs.Points.{from, HasPoints};
 ghost use Rattle.links.specs.Words.{HasLinks};
 ghost use Rattle.segment.specs.Against.{AgainstIs};
+ghost use Rattle.blocks.specs.Boxes.{HasBoxes};
 ghost use Rattle.crossing.specs.Crossing.{AgainstAt, StandsIs, CrossesIs};
+ghost use Rattle.crossing.specs.Passing.{EndOf, SkipIs, WalkDone, Beyond};
+use blocks::Blocks;
+use bounds::Bounds;
 use layout::Layout;
 
-// geo's `tree_intersect`, as a scan: the new segment from l to r crosses a present one of any ring, one that shares a point with it and has no end at
-// either of its ends.
-pub fn crosses(x: &[f64], y: &[f64], words: &[u32], m: Layout, l: usize, r: usize) -> bool
-    requires { ⌜ HasPoints m (now x) (now y) × HasLinks m (now words) × (l < m .points) × (r < m .points) ⌝ }
-    ensures { λ b. ⌜ CrossesIs m (now (x .entry)) (now (y .entry)) (now (words .entry)) l r b ⌝ }
+// geo's `tree_intersect`: the new segment from l to r crosses a present one of any ring, one that shares a point with it and has no end at either of its ends.
+// Points past the last block are walked plainly.
+pub fn crosses(
+    x: &[f64],
+    y: &[f64],
+    floats: &[f64],
+    words: &[u32],
+    m: Layout,
+    b: Blocks,
+    l: usize,
+    r: usize,
+) -> bool
+    requires { ⌜ HasPoints m (now x) (now y) × HasLinks m (now words) × HasBoxes b (now floats) × (l < m .points) × (r < m .points) ⌝ }
+    ensures { λ c. ⌜ CrossesIs b m (now (x .entry)) (now (y .entry)) (now (floats .entry)) (now (words .entry)) l r c ⌝ }
 {
-    let mut i = 0;
-    while i < m.points {
-        if stands(x, y, words, m, i, l, r) {
-            return true;
+    let new = blocks::spanning(x, y, m, Bounds::of_none(), l, r);
+    let mut from = 0;
+    let mut start = 0;
+    let mut k = 0;
+    while k < b.number {
+        let end = end_of(start, b.size, m.points);
+        let lo = skip(floats, b, k, new, from, end);
+        let got = walk(x, y, words, m, lo, end, l, r);
+        match got {
+            Walked::Against => {
+                return true;
+            }
+            Walked::Passed(j) => {
+                from = j;
+                start = end;
+                k += 1;
+            }
         }
-        i += 1;
     }
-    false
+    let rest = walk(x, y, words, m, from, m.points, l, r);
+    match rest {
+        Walked::Against => true,
+        Walked::Passed(j) => false,
+    }
+}
+
+// Where the block from `start` on ends.
+fn end_of(start: usize, size: usize, points: usize) -> usize
+    requires { ⌜ start ≤ points ⌝ }
+    ensures { λ r. ⌜ EndOf start size points r ⌝ }
+{
+    if points - start <= size {
+        return points;
+    }
+    start + size
+}
+
+// Where to walk on in block k, which ends at `end`, if the points below `from` are passed: at its end, if its box is apart from the new segment's.
+fn skip(floats: &[f64], b: Blocks, k: usize, new: Bounds, from: usize, end: usize) -> usize
+    requires { ⌜ HasBoxes b (now floats) × (k < b .number) ⌝ }
+    ensures { λ r. ⌜ SkipIs (now (floats .entry)) b k new from end r ⌝ }
+{
+    if end <= from {
+        return from;
+    }
+    let old = blocks::bounds_of(floats, b, k);
+    if old.apart(new) {
+        return end;
+    }
+    from
+}
+
+// A present segment that stands against the new one; or the point that the walk came to, with none behind it.
+enum Walked {
+    Against,
+    Passed(usize),
+}
+
+// Walks from point lo to point hi, or past it.
+fn walk(
+    x: &[f64],
+    y: &[f64],
+    words: &[u32],
+    m: Layout,
+    lo: usize,
+    hi: usize,
+    l: usize,
+    r: usize,
+) -> Walked
+    requires { ⌜ HasPoints m (now x) (now y) × HasLinks m (now words) × (hi ≤ m .points) × (l < m .points) × (r < m .points) ⌝ }
+    ensures { λ c. ⌜ WalkDone m (now (x .entry)) (now (y .entry)) (now (words .entry)) lo hi l r c ⌝ }
+{
+    let mut i = lo;
+    while i < hi {
+        if stands(x, y, words, m, i, l, r) {
+            return Walked::Against;
+        }
+        i = beyond(words, m, i);
+    }
+    Walked::Passed(i)
+}
+
+// A point after i with no kept one between: where the links of i lead, if it is kept and they lead on.
+fn beyond(words: &[u32], m: Layout, i: usize) -> usize
+    requires { ⌜ HasLinks m (now words) × (i < m .points) ⌝ }
+    ensures { λ r. ⌜ Beyond m (now (words .entry)) i r ⌝ }
+{
+    if !links::kept(words, m, i) {
+        return i + 1;
+    }
+    let j = links::next(words, m, i) as usize;
+    if j <= i {
+        return i + 1;
+    }
+    if m.points <= j {
+        return i + 1;
+    }
+    j
 }
 
 // A present segment starts at point i, and it is against the one from l to r.
 fn stands(x: &[f64], y: &[f64], words: &[u32], m: Layout, i: usize, l: usize, r: usize) -> bool
     requires { ⌜ HasPoints m (now x) (now y) × HasLinks m (now words) × (i < m .points) × (l < m .points) × (r < m .points) ⌝ }
-    ensures { λ b. ⌜ StandsIs m (now (x .entry)) (now (y .entry)) (now (words .entry)) i l r b ⌝ }
+    ensures { λ c. ⌜ StandsIs m (now (x .entry)) (now (y .entry)) (now (words .entry)) i l r c ⌝ }
 {
     if !links::kept(words, m, i) {
         return false;
@@ -40,7 +144,7 @@ fn stands(x: &[f64], y: &[f64], words: &[u32], m: Layout, i: usize, l: usize, r:
 // The segment from point i to point j is against the one from l to r.
 fn against_points(x: &[f64], y: &[f64], m: Layout, i: usize, j: usize, l: usize, r: usize) -> bool
     requires { ⌜ HasPoints m (now x) (now y) × (i < m .points) × (j < m .points) × (l < m .points) × (r < m .points) ⌝ }
-    ensures { λ b. ⌜ AgainstAt m (now (x .entry)) (now (y .entry)) i j l r b ⌝ }
+    ensures { λ c. ⌜ AgainstAt m (now (x .entry)) (now (y .entry)) i j l r c ⌝ }
 {
     against_present(
         x,
@@ -68,8 +172,8 @@ fn against_present(
     ry: f64,
 ) -> bool
     requires { ⌜ HasPoints m (now x) (now y) × (i < m .points) × (j < m .points) ⌝ }
-    ensures { λ b. ⌜ AgainstIs (from (now (x .entry)) (m .x) i) (from (now (y .entry)) (m .y) i) (from (now (x .entry)) (m .x) j) (from (now (y .entry)) (m .y) j)
-        lx ly rx ry b ⌝ }
+    ensures { λ c. ⌜ AgainstIs (from (now (x .entry)) (m .x) i) (from (now (y .entry)) (m .y) i) (from (now (x .entry)) (m .x) j) (from (now (y .entry)) (m .y) j)
+        lx ly rx ry c ⌝ }
 {
     segment::against(
         x[m.x + i],

@@ -8,7 +8,8 @@ use native.Mathlib.Omega.{arith}
 use native.Mathlib.Nat.{mul-suc, mul-add, add-mul, mul-one, mul-pos, mul-le-mul-left}
 use lib.IntN.{ℤ, pos, negsuc, negℤ, natAbs, _+ℤ_, _-ℤ_, _*ℤ_, +ℤ-idl, +ℤ-idr, +ℤ-comm, +ℤ-invr, negℤ-negℤ, negℤ-+ℤ, pos-ne-negsuc}
 use lib.Signed.{leZ}
-use borrow.Author.Tests.{leb-true, leb-false, le-leb, lt-ltb, le-ltb}
+use borrow.Author.Tests.{leb-true, leb-false, lt-ltb, le-ltb}
+use Rattle.ring.proofs.Order.{le-refl, le-total}
 use Rattle.ring.proofs.Ring.{E, v, k, _⊕_, _⊖_, _⊗_, ⊝_, ring}
 use Rattle.rule.specs.Grid.{Point, turn}
 use Rattle.rule.specs.Segment.{along, Meets, oneSide, overlap, meets}
@@ -103,12 +104,6 @@ gt-above (pos a) (pos b) e = let h = leb-false a b e in record { by = a - b; lea
 gt-above (pos a) (negsuc b) e = record { by = suc b + a; least = omega arith; sum = sym (down-up b a (suc b + a) refl) }
 gt-above (negsuc a) (pos b) e = absurd (true≢false e)
 gt-above (negsuc a) (negsuc b) e = let h = leb-false b a e in record { by = b - a; least = omega arith; sum = sym (down-down b a (b - a) (omega arith)) }
-
-total : (x y : ℤ) → leZ x y ≡ false → leZ y x ≡ true
-total (pos a) (pos b) e = le-leb b a (omega (arith, leb-false a b e))
-total (pos a) (negsuc b) e = refl
-total (negsuc a) (pos b) e = absurd (true≢false e)
-total (negsuc a) (negsuc b) e = le-leb a b (omega (arith, leb-false b a e))
 
 -- ---- from the definition to the test: the sides
 
@@ -241,22 +236,18 @@ end-inside a b c d ac o = go (leZ c b) refl (leZ c a) refl (leZ d a) refl (leZ d
     go : (x : Bool) → leZ c b ≡ x → (y : Bool) → leZ c a ≡ y → (z : Bool) → leZ d a ≡ z → (w : Bool) → leZ d b ≡ w → (y || x || z || w) ≡ true
         → Between c a b ⊎ Between a c d ⊎ Between b c d
     go true cb y ca z da w db o = inl (inl (rising c a b ac cb))
-    go false cb true ca z da w db o = inl (inr (rising c b a (total c b cb) ca))
+    go false cb true ca z da w db o = inl (inr (rising c b a (le-total c b cb) ca))
     go false cb false ca true da w db o = inr (inl (inr (rising a d c da ac)))
-    go false cb false ca false da true db o = inr (inr (inr (rising b d c db (total c b cb))))
+    go false cb false ca false da true db o = inr (inr (inr (rising b d c db (le-total c b cb))))
     go false cb false ca false da false db o = absurd (false≢true o)
 
 -- one end lies between both
 own-end : (z a b : ℤ) → z ≡ a → Between z a b
 own-end z a b e = go (leZ z b) refl
   where
-    le-refl : (x : ℤ) → leZ x x ≡ true
-    le-refl (pos n) = le-leb n n (omega arith)
-    le-refl (negsuc n) = le-leb n n (omega arith)
-
     go : (x : Bool) → leZ z b ≡ x → Between z a b
     go true f = inl (rising z a b (subst (λ (y : ℤ). leZ a y ≡ true) (sym e) (le-refl a)) f)
-    go false f = inr (rising z b a (total z b f) (subst (λ (y : ℤ). leZ z y ≡ true) e (le-refl z)))
+    go false f = inr (rising z b a (le-total z b f) (subst (λ (y : ℤ). leZ z y ≡ true) e (le-refl z)))
 
 -- the place m / (m + n) along from A to B is C
 placed : (m n : ℕ) (A B C D : ℤ) → pos n *ℤ A +ℤ pos m *ℤ B ≡ pos (m + n) *ℤ C → along (m + n) m A B ≡ along (m + n) 0 C D
@@ -373,7 +364,7 @@ on-line-x a b c d f o = go (leZ (a .x) (c .x)) refl
 
     go : (x : Bool) → leZ (a .x) (c .x) ≡ x → Joint a b c d
     go true e = side a b c d f (end-inside (a .x) (b .x) (c .x) (d .x) e (parts o .1))
-    go false e = joint-swap (side c d a b (flat-swap f) (end-inside (c .x) (d .x) (a .x) (b .x) (total (a .x) (c .x) e) (parts o .0)))
+    go false e = joint-swap (side c d a b (flat-swap f) (end-inside (c .x) (d .x) (a .x) (b .x) (le-total (a .x) (c .x) e) (parts o .0)))
 
 -- x and y exchanged
 abbrev mirror : Point → Point

@@ -11,9 +11,9 @@ abbrev pub header : ℕ
 header = 16
 
 abbrev pub scratchOf : ℕ → Layout
-scratchOf n = record { heap = 0; capacity = 3 * n; links = 9 * n; points = n; x = 0; y = 0 }
+scratchOf n = record { heap = 0; capacity = 2 * n; links = 9 * n; points = n; x = 0; y = 0 }
 
--- at most 3 (n - 2) scores are ever pushed, so the heap stays clear of the tolerance, which stands in the last place before x
+-- at most 2 (n - 2) scores ever stand there, so the heap stays clear of the tolerance, which stands in the last place before x
 abbrev pub slotOf : ℕ → Layout
 slotOf n = record { heap = header; capacity = 3 * mostPoints - 6; links = header + 9 * mostPoints; points = n; x = 3 * mostPoints; y = 4 * mostPoints }
 

@@ -27,7 +27,7 @@ impl Layout {
     {
         Layout {
             heap: 0,
-            capacity: 3 * points,
+            capacity: 2 * points,
             links: 9 * points,
             points: points,
             x: 0,

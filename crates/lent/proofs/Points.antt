@@ -44,6 +44,6 @@ pub runs-fit : {us vs : List Float} {t : Float} {out : List ℕ} {fs : List Floa
 runs-fit ready e =
     rw e (
       record { x = omega arith; y = omega (arith, ready .fine .level) },
-      record { areas = ready .floats; scores = omega arith; linked = omega (arith, ready .words) },
+      record { areas = omega (arith, ready .floats); scores = omega arith; linked = omega (arith, ready .words) },
       ready .fine .few,
     )

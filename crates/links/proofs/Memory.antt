@@ -1,15 +1,16 @@
 -- Links in lent memory: the words of one point written, memory that is the same where it counts, and a point taken out. Assumes nothing.
-use mathlib.Core.Path.{_≡_, refl, _∙_}
+use mathlib.Core.Path.{_≡_, refl, sym, ap, _∙_}
 use mathlib.Core.List.{List}
-use mathlib.Core.Logic.{_⊎_, ⊎-elim}
+use mathlib.Core.Logic.{_⊎_, inl, inr, ⊎-elim}
 use Prim.Native.Nat.{ℕ, _+_, _*_, _≤_, _<_}
+use native.Mathlib.Decide.{ℕ-discrete}
 use native.Mathlib.Omega.{arith}
 use lib.ListN.{getD}
 use Rattle.layout.specs.declared.Layout.{Layout}
 use Rattle.layout.proofs.Words.{three-other, three-first, three-second, three-third}
 use Rattle.rule.specs.Plain.{without}
 use Rattle.vscore.specs.declared.VScore.{VScore}
-use Rattle.links.specs.Words.{HasLinks, previousAt, nextAt, markAt, written, linkedAs, unlinked, SameLinks, OnlyLinks}
+use Rattle.links.specs.Words.{HasLinks, previousAt, nextAt, markAt, Starts, written, linkedAs, unlinked, SameLinks, OnlyLinks}
 use Rattle.links.specs.Ring.{Triple, Ring, Live}
 use Rattle.links.proofs.Ring.{ring-below, linked-same, taken-out}
 
@@ -27,6 +28,9 @@ module _ {ws : List ℕ} {m : Layout} {ws′ : List ℕ} where
   -- at a ring's points
   pub ring-same : {lo hi : ℕ} {ks : List ℕ} → ((i : ℕ) → lo ≤ i → i < hi → SameLinks ws m ws′ i) → Ring ws m lo hi ks → Ring ws′ m lo hi ks
   ring-same e h = linked-same h (λ i p q. let s = e i p q in (s .previous, s .next, s .mark))
+
+  pub starts-same : {i : ℕ} → SameLinks ws m ws′ i → Starts ws′ m i → Starts ws m i
+  starts-same e s = record { kept = sym (e .mark) ∙ s .kept; ahead = omega (arith, e .next, s .ahead) }
 
   pub live-same : {s : VScore} → SameLinks ws m ws′ (s .current) → Live ws m s → Live ws′ m s
   live-same e a = record {
@@ -132,6 +136,25 @@ module _ (ws : List ℕ) (m : Layout) (s : VScore) where
     where
       out : (i : ℕ) → (i < lo) ⊎ (hi ≤ i) → (x : ℕ) → (lo ≤ x) × (x < hi) → i ≡ x → ⊥
       out i w x p e = ⊎-elim (λ h. omega (arith, p .0)) (λ h. omega (arith, p .1)) w
+
+  -- a segment that is present then is the new one, or was there before
+  pub unlinked-starts : HasLinks m ws → s .left < m .points → s .current < m .points → s .right < m .points → (i : ℕ) → i < m .points → Starts (unlinked ws m s) m i
+      → ((i ≡ s .left) × (nextAt (unlinked ws m s) m i ≡ s .right)) ⊎ (Starts ws m i × (nextAt (unlinked ws m s) m i ≡ nextAt ws m i))
+  unlinked-starts room l c r i h st = go (ℕ-discrete i (s .left)) (ℕ-discrete i (s .current))
+    where
+      now : Written ws m (s .right) (s .left) (s .left) (s .right) (s .current) 1
+      now = written-is ws m (s .right) (s .left) (s .left) (s .right) (s .current) 1 room r l c
+
+      go : Dec (i ≡ s .left) → Dec (i ≡ s .current)
+          → ((i ≡ s .left) × (nextAt (unlinked ws m s) m i ≡ s .right)) ⊎ (Starts ws m i × (nextAt (unlinked ws m s) m i ≡ nextAt ws m i))
+      go (yes e) d = inl (e, ap (nextAt (unlinked ws m s) m) e ∙ now .next)
+      go (no nl) (yes e) = absurd (omega (arith, now .mark, ap (markAt (unlinked ws m s) m) e, st .kept))
+      go (no nl) (no nc) =
+          let n : nextAt (unlinked ws m s) m i ≡ nextAt ws m i =
+          unlinked-at (m .links + m .points + i) (λ e. omega arith) (λ e. nl (omega arith)) (λ e. omega arith) in
+          let k : markAt (unlinked ws m s) m i ≡ markAt ws m i =
+          unlinked-at (m .links + 2 * m .points + i) (λ e. omega arith) (λ e. omega arith) (λ e. nc (omega arith)) in
+          inr (record { kept = sym k ∙ st .kept; ahead = omega (arith, n, st .ahead) }, n)
 
   module _ {lo hi : ℕ} {ks : List ℕ} (room : HasLinks m ws) (h : Ring ws m lo hi ks) (v : Triple ks (s .left) (s .current) (s .right)) where
     pub unlinked-ring : Ring (unlinked ws m s) m lo hi (without (s .current) ks)

@@ -3,13 +3,15 @@
 use mathlib.Core.Path.{_≡_, sym, ap, _∙_, subst}
 use mathlib.Core.List.{List, [], _∷_, _++_}
 use Prim.Native.Nat.{ℕ, _+_, _-_, _≤_, _<_}
+use native.Mathlib.Decide.{decLt}
 use native.Mathlib.Nat.{sub-zero}
 use native.Mathlib.Omega.{arith}
 use Rattle.layout.specs.declared.Layout.{Layout}
 use Rattle.rule.specs.Rings.{joined}
-use Rattle.links.specs.Words.{markAt, SameLinks}
+use Rattle.links.specs.Words.{nextAt, markAt, Starts, SameLinks}
 use Rattle.links.specs.Ring.{keptFrom, unmarked, allUnmarked, Line, Rings}
 use Rattle.links.proofs.Marks.{kept-append}
+use Rattle.links.proofs.Ring.{ring-in, in-ring, is-next}
 use Rattle.links.proofs.Memory.{ring-same}
 
 pub rings-from : (ws : List ℕ) (m : Layout) (lo end : ℕ) (his : List ℕ) (kss : List (List ℕ)) → Rings ws m lo end his kss → lo ≤ end
@@ -57,3 +59,19 @@ rings-all ws m his kss h = rings-kept ws m 0 (m .points) his kss h ∙ ap (keptF
 
 pub line-all : (ws : List ℕ) (m : Layout) {ks : List ℕ} → Line ws m ks → ks ≡ allUnmarked ws m
 line-all ws m h = h .kept ∙ ap (keptFrom (markAt ws m) 0) (sub-zero (m .points))
+
+-- ---- present segments
+
+-- no point is kept between the ends of one
+pub none-between : (ws : List ℕ) (m : Layout) (lo : ℕ) (his : List ℕ) (kss : List (List ℕ)) → Rings ws m lo (m .points) his kss
+    → (i : ℕ) → lo ≤ i → i < m .points → Starts ws m i → (k : ℕ) → i < k → k < nextAt ws m i → markAt ws m k ≡ 0 → ⊥
+none-between ws m lo [] [] h i p q s k a b e = omega arith
+none-between ws m lo [] (ks ∷ kss) h i p q s k a b e = absurd h
+none-between ws m lo (hi ∷ his) [] h i p q s k a b e = absurd h
+none-between ws m lo (hi ∷ his) (ks ∷ kss) h i p q s k a b e = go (decLt i hi) (λ w. none-between ws m hi his kss (h .1) i w q s k a b e)
+  where
+    go : Dec (i < hi) → (hi ≤ i → ⊥) → ⊥
+    go (yes w) rec =
+        let t = is-next (h .0) (in-ring (h .0) i p w (s .kept)) (s .ahead) in
+        t .none k a b (in-ring (h .0) k (omega arith) (omega (arith, ring-in (h .0) (nextAt ws m i) (t .to) .high)) e)
+    go (no w) rec = rec (omega arith)

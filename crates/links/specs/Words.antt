@@ -20,6 +20,11 @@ nextAt ws m i = getD ws (m .links + m .points + i) 0
 abbrev pub markAt : List ℕ → Layout → ℕ → ℕ
 markAt ws m i = getD ws (m .links + 2 * m .points + i) 0
 
+-- point i is kept and has a next one, so that a present segment starts there
+pub record Starts (ws : List ℕ) (m : Layout) (i : ℕ) : Type 0 where
+  pub kept : markAt ws m i ≡ 0
+  pub ahead : nextAt ws m i < m .points
+
 -- p is the previous point of a, q the next of b, and k the mark of c
 abbrev pub written : List ℕ → Layout → ℕ → ℕ → ℕ → ℕ → ℕ → ℕ → List ℕ
 written ws m a p b q c k = set (set (set ws (m .links + a) p) (m .links + m .points + b) q) (m .links + 2 * m .points + c) k

@@ -22,7 +22,7 @@ pub keeps-rule : {rule : List Point → Float → List ℕ} {us vs : List Float}
     → Ready us vs t (lent out fs ws) → m ≡ scratchOf (length us) → Ran rule us vs fs ws m t fs₁ ws₁ → length fs₁ ≡ length fs → length ws₁ ≡ length ws
     → Keeps (length us) (allUnmarked ws₁ (scratchOf (length us))) (lent out fs₁ ws₁) r m′ → Keeps (length us) (rule (points us vs) t) (lent out fs ws) r m′
 keeps-rule {rule} {us} {vs} {t} {out} {fs} {fs₁} {ws} {ws₁} {r = r} {m′ = m′} ready e ran lf lw k =
-    keeps-from lf lw (run .floats) (λ i h. run .words i (omega arith))
+    keeps-from lf lw (λ i h. run .floats i (omega arith)) (λ i h. run .words i (omega arith))
     (subst (λ (ks : List ℕ). Keeps (length us) ks (lent out fs₁ ws₁) r m′) (sym (line-all ws₁ (scratchOf (length us)) (run .kept (points us vs) given))) k)
   where
     run : Ran rule us vs fs ws (scratchOf (length us)) t fs₁ ws₁

@@ -19,6 +19,9 @@ use Rattle.links.specs.Ring.{Rings}
 use Rattle.links.specs.Calls.{Joined}
 use Rattle.links.proofs.Rings.{rings-same, rings-append}
 use Rattle.thin.specs.State.{most}
+use Rattle.blocks.specs.declared.Blocks.{Blocks}
+use Rattle.blocks.specs.Boxes.{boxesEnd, behindEnd, BehindHeap, HasBoxes, setUp, Boxed}
+use Rattle.blocks.proofs.Made.{set-up-only, set-up-boxed}
 use Rattle.thin_ring.specs.State.{Setting, leftIn, Ended, Outside}
 use Rattle.thin_ring.specs.Calls.{RingDone}
 use Rattle.thin_ring.proofs.Running.{outside-self, outside-then}
@@ -93,7 +96,8 @@ module _ {ws : List ℕ} {m : Layout} {ends : List ℕ} where
 
 -- ---- all rings thinned
 
-linked-frame : {fs : List Float} {ws : List ℕ} {m : Layout} {ends : List ℕ} {ws₁ : List ℕ} → Room m fs ws → LinkedAll ws m ends ws₁ → Outside fs ws m fs ws₁
+linked-frame : {fs : List Float} {ws : List ℕ} {m : Layout} {ends : List ℕ} {ws₁ : List ℕ} → Room m fs ws → LinkedAll ws m ends ws₁
+    → Outside (behindEnd m) fs ws m fs ws₁
 linked-frame room l = record { floats = λ i h. refl; before = λ i h. l .before i (omega (arith, room .scores)); after = l .after }
 
 -- a tolerance of zero or less keeps all
@@ -124,41 +128,43 @@ module _ (ps : List Point) (t : Float) (q : Minima) where
   keeps-all e kss = rw (preserveRemoved, e)
 
 -- the rings before lo are thinned, and the others are whole
-pub record Halfway (ps : List Point) (t : Float) (q : Minima) (ends : List ℕ) (ws′ : List ℕ) (m : Layout) (past : List ℕ) (lo k : ℕ) : Type 0 where
+pub record Halfway (b : Blocks) (ps : List Point) (t : Float) (q : Minima) (ends : List ℕ) (fs′ : List Float) (ws′ : List ℕ) (m : Layout) (past : List ℕ) (lo k : ℕ) : Type 0 where
   pub done : List (List ℕ)
   pub before : Rings ws′ m 0 lo past done
   pub after : Rings ws′ m lo (m .points) (drop k ends) (ringsFrom lo (drop k ends))
+  pub boxed : Boxed b m ps fs′ ws′
   pub same : done ++ keeps ps t q done (ringsFrom lo (drop k ends)) ≡ keeps ps t q [] (ringsFrom 0 ends)
 
-pub record Thinning (us vs fs : List Float) (ws : List ℕ) (m : Layout) (ends : List ℕ) (q : Minima) (t : Float) (fs′ : List Float) (ws′ : List ℕ) (lo k : ℕ) : Type 0 where
+pub record Thinning (b : Blocks) (us vs fs : List Float) (ws : List ℕ) (m : Layout) (ends : List ℕ) (q : Minima) (t : Float) (fs′ : List Float) (ws′ : List ℕ) (lo k : ℕ) : Type 0 where
   pub past : List ℕ
   pub floats : length fs′ ≡ length fs
   pub words : length ws′ ≡ length ws
   pub table : Cut ends (m .points) past k lo
-  pub frame : Outside fs ws m fs′ ws′
+  pub frame : Outside (boxesEnd b) fs ws m fs′ ws′
   pub under : (ps : List Point) → PlacedIn us vs m ps → isFinite t ≡ true → positive t ≡ true → most m ≤ m .capacity → Rings ws m 0 (m .points) ends (ringsFrom 0 ends)
-      → Halfway ps t q ends ws′ m past lo k
+      → Boxed b m ps fs ws → Halfway b ps t q ends fs′ ws′ m past lo k
 
-module _ {us vs fs : List Float} {ws : List ℕ} {m : Layout} {ends : List ℕ} {q : Minima} {t : Float} where
-  pub thinning-start : Cuts (m .points) ends → Thinning us vs fs ws m ends q t fs ws 0 0
+module _ {b : Blocks} {us vs fs : List Float} {ws : List ℕ} {m : Layout} {ends : List ℕ} {q : Minima} {t : Float} where
+  pub thinning-start : Cuts (m .points) ends → Thinning b us vs fs ws m ends q t fs ws 0 0
   thinning-start c = record {
     past = [];
     floats = refl;
     words = refl;
     table = cut-start c;
-    frame = outside-self fs ws m;
-    under = λ ps p f a fits r. record { done = []; before = refl; after = r; same = refl };
+    frame = outside-self (boxesEnd b) fs ws m;
+    under = λ ps p f a fits r x. record { done = []; before = refl; after = r; boxed = x; same = refl };
   }
 
-  module _ {fs′ : List Float} {ws′ : List ℕ} {lo k : ℕ} (s : Thinning us vs fs ws m ends q t fs′ ws′ lo k) where
-    module _ (h : k < length ends) {fs″ : List Float} {ws″ : List ℕ} (d : RingDone us vs fs′ ws′ m lo (getD ends k 0) q t fs″ ws″) where
-      more : (ps : List Point) → PlacedIn us vs m ps → isFinite t ≡ true → positive t ≡ true → most m ≤ m .capacity → Halfway ps t q ends ws′ m (s .past) lo k
-          → Halfway ps t q ends ws″ m (s .past ++ (getD ends k 0 ∷ [])) (getD ends k 0) (k + 1)
+  module _ {fs′ : List Float} {ws′ : List ℕ} {lo k : ℕ} (s : Thinning b us vs fs ws m ends q t fs′ ws′ lo k) where
+    module _ (h : k < length ends) {fs″ : List Float} {ws″ : List ℕ} (d : RingDone b us vs fs′ ws′ m lo (getD ends k 0) q t fs″ ws″) where
+      more : (ps : List Point) → PlacedIn us vs m ps → isFinite t ≡ true → positive t ≡ true → most m ≤ m .capacity → Halfway b ps t q ends fs′ ws′ m (s .past) lo k
+          → Halfway b ps t q ends fs″ ws″ m (s .past ++ (getD ends k 0 ∷ [])) (getD ends k 0) (k + 1)
       more ps p f a fits w =
           record {
             done = w .done ++ (left ∷ []);
             before = ring-more ws″ m lo (getD ends k 0) (s .past) (w .done) left (e .others .before) (e .ring, refl);
             after = e .others .after;
+            boxed = e .boxed;
             same = append-assoc (w .done) (left ∷ []) (keeps ps t q (w .done ++ (left ∷ [])) kss)
                 ∙ ap (λ (l : List (List ℕ)). w .done ++ l)
                 (sym (keeps-one ps t q (w .done) (indices lo (getD ends k 0 - lo)) kss) ∙ ap (keeps ps t q (w .done)) (sym (next-rings (s .table) h)))
@@ -187,28 +193,43 @@ module _ {us vs fs : List Float} {ws : List ℕ} {m : Layout} {ends : List ℕ} 
               subst (λ (x : List (List ℕ)). Rings ws′ m lo (m .points) (getD ends k 0 ∷ drop (k + 1) ends) x) (next-rings (s .table) h)
               (subst (λ (x : List ℕ). Rings ws′ m lo (m .points) x (ringsFrom lo (drop k ends))) (next-is (s .table) h) (w .after))
 
-          e : Ended g left ws″ m
-          e = d .does g (record { placed = p; finite = f; above = a }) refl refl fits (record { ring = here .0; others = record { before = w .before; after = here .1 } })
+          e : Ended b g left fs″ ws″ m
+          e =
+              d .does g (record { placed = p; finite = f; above = a }) refl refl fits
+              (record { ring = here .0; others = record { before = w .before; after = here .1 }; boxed = w .boxed })
 
-      pub thinning-more : length fs″ ≡ length fs′ → length ws″ ≡ length ws′ → Thinning us vs fs ws m ends q t fs″ ws″ (getD ends k 0) (k + 1)
+      pub thinning-more : length fs″ ≡ length fs′ → length ws″ ≡ length ws′ → Thinning b us vs fs ws m ends q t fs″ ws″ (getD ends k 0) (k + 1)
       thinning-more lf lw = record {
         past = s .past ++ (getD ends k 0 ∷ []);
         floats = lf ∙ s .floats;
         words = lw ∙ s .words;
         table = next-cut (s .table) h;
         frame = outside-then (s .frame) (d .frame);
-        under = λ ps p f a fits r. more ps p f a fits (s .under ps p f a fits r);
+        under = λ ps p f a fits r x. more ps p f a fits (s .under ps p f a fits r x);
       }
 
-    -- the rings were whole at first
-    pub thinning-end : length ends ≤ k → positive t ≡ true → {ws₀ : List ℕ} → Room m fs ws₀ → LinkedAll ws₀ m ends ws → Wrapped us vs fs ws₀ m ends q t fs′ ws′
+    -- the rings were whole at first, and had their boxes made
+    pub thinning-end : length ends ≤ k → positive t ≡ true → {fs₀ : List Float} {ws₀ : List ℕ} → Room m fs₀ ws₀ → LinkedAll ws₀ m ends ws → BehindHeap m b → HasBoxes b fs₀
+        → fs ≡ setUp b m us vs ws fs₀ → Wrapped us vs fs₀ ws₀ m ends q t fs′ ws′
     unfolding ringsFrom
-    thinning-end h a room l = record {
-      frame = outside-then (linked-frame room l) (s .frame);
-      rings = λ ps p f fits. end ps (s .under ps p f a fits (l .rings));
+    thinning-end h a {fs₀} {ws₀} room l behind has z = record {
+      frame = outside-then (linked-frame room l) (outside-then made (record {
+        floats = λ i g. s .frame .floats i (omega (arith, behind .start, behind .few));
+        before = s .frame .before;
+        after = s .frame .after;
+      }));
+      rings = λ ps p f fits.
+          end ps (s .under ps p f a fits (l .rings) (subst (λ (y : List Float). Boxed b m ps y ws) (sym z) (set-up-boxed b m us vs ws fs₀ has p)));
     }
       where
-        end : (ps : List Point) → Halfway ps t q ends ws′ m (s .past) lo k → Rings ws′ m 0 (m .points) ends (preserve ps t q (ringsFrom 0 ends))
+        made : Outside (behindEnd m) fs₀ ws m fs ws
+        made = subst (λ (y : List Float). Outside (behindEnd m) fs₀ ws m y ws) (sym z) (record {
+          floats = λ i g. set-up-only b m us vs ws fs₀ .after i (omega (arith, behind .start, behind .few));
+          before = λ i g. refl;
+          after = λ i g. refl;
+        })
+
+        end : (ps : List Point) → Halfway b ps t q ends fs′ ws′ m (s .past) lo k → Rings ws′ m 0 (m .points) ends (preserve ps t q (ringsFrom 0 ends))
         end ps w = go (drop k ends) (omega (arith, length-drop k ends)) (w .same) (cut-end (s .table) h .0) (cut-end (s .table) h .1)
           where
             go : (l : List ℕ) → length l ≤ 0 → w .done ++ keeps ps t q (w .done) (ringsFrom lo l) ≡ keeps ps t q [] (ringsFrom 0 ends) → s .past ≡ ends → lo ≡ m .points

@@ -1,7 +1,7 @@
 -- The whole calls meet their statements. Assumes nothing.
 use mathlib.Core.Path.{_≡_, refl, sym, ap, _∙_, subst}
 use mathlib.Core.List.{List, [], _∷_, map}
-use Prim.Native.Nat.{ℕ}
+use Prim.Native.Nat.{ℕ, _≤_}
 use native.Mathlib.Nat.{sub-zero}
 use native.Mathlib.Omega.{arith}
 use lib.Dec.{leb·zero}
@@ -23,6 +23,7 @@ use Rattle.lent.proofs.Points.{length-points, placed-points}
 use Rattle.ending.proofs.Whole.{keeps-from}
 use Rattle.links.specs.Ring.{allUnmarked, Rings}
 use Rattle.links.proofs.Rings.{rings-all}
+use Rattle.blocks.specs.Boxes.{behindEnd}
 use Rattle.thin_ring.specs.Calls.{minima}
 use Rattle.ring_reasons.specs.Table.{Cuts}
 use Rattle.simplify_vw_preserve.specs.Calls.{Wrapped, countBelow}
@@ -43,6 +44,11 @@ line-is : (ps : List Point) (t : Float) (n : ℕ) → length ps ≡ n → joined
 unfolding lineRule ringsFrom all
 line-is ps t n e = rw (sub-zero n, ← e)
 
+-- there is room behind the heap of a scratch
+pub behind-fits : {us vs : List Float} {t : Float} {out : List ℕ} {fs : List Float} {ws : List ℕ} {m : Layout}
+    → Ready us vs t (lent out fs ws) → m ≡ scratchOf (length us) → behindEnd m ≤ length fs
+behind-fits ready e = rw e (omega (arith, ready .floats))
+
 -- the rings were thinned in the layout of the scratch, and what has no mark was listed
 module _ {us vs : List Float} {t : Float} {out : List ℕ} {fs fs₁ : List Float} {ws ws₁ : List ℕ} {m : Layout} {ends : List ℕ} {q : Minima}
     (ready : Ready us vs t (lent out fs ws)) (e : m ≡ scratchOf (length us)) (w : Wrapped us vs fs ws m ends q t fs₁ ws₁) where
@@ -58,7 +64,7 @@ module _ {us vs : List Float} {t : Float} {out : List ℕ} {fs fs₁ : List Floa
   keeps-joined : {r : ℕ} {m′ : Lent} → length fs₁ ≡ length fs → length ws₁ ≡ length ws
       → Keeps (length us) (allUnmarked ws₁ (scratchOf (length us))) (lent out fs₁ ws₁) r m′ → Keeps (length us) (joined kss) (lent out fs ws) r m′
   keeps-joined {r} {m′} lf lw k =
-      keeps-from lf lw (wrapped .frame .floats) (λ i h. wrapped .frame .after i (omega arith))
+      keeps-from lf lw (λ i h. wrapped .frame .floats i (omega arith)) (λ i h. wrapped .frame .after i (omega arith))
       (subst (λ (ks : List ℕ). Keeps (length us) ks (lent out fs₁ ws₁) r m′) (sym (rings-all ws₁ (scratchOf (length us)) ends kss rings)) k)
 
 pub keeps-line : {us vs : List Float} {t : Float} {out : List ℕ} {fs fs₁ : List Float} {ws ws₁ : List ℕ} {m : Layout} {r : ℕ} {m′ : Lent}

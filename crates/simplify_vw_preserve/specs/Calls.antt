@@ -12,6 +12,7 @@ use Rattle.layout.specs.declared.Layout.{Layout}
 use Rattle.layout.specs.Points.{PlacedIn}
 use Rattle.links.specs.Words.{markAt}
 use Rattle.links.specs.Ring.{keptFrom, Rings}
+use Rattle.blocks.specs.Boxes.{behindEnd}
 use Rattle.thin.specs.State.{most}
 use Rattle.thin_ring.specs.State.{Outside}
 
@@ -23,7 +24,7 @@ pub record LinkedAll (ws : List ℕ) (m : Layout) (ends : List ℕ) (ws′ : Lis
 
 -- the links are those of what the rule keeps of each ring
 pub record Wrapped (us vs fs : List Float) (ws : List ℕ) (m : Layout) (ends : List ℕ) (q : Minima) (t : Float) (fs′ : List Float) (ws′ : List ℕ) : Type 0 where
-  pub frame : Outside fs ws m fs′ ws′
+  pub frame : Outside (behindEnd m) fs ws m fs′ ws′
   pub rings : (ps : List Point) → PlacedIn us vs m ps → isFinite t ≡ true → most m ≤ m .capacity → Rings ws′ m 0 (m .points) ends (preserve ps t q (ringsFrom 0 ends))
 
 -- how many points below hi have no mark

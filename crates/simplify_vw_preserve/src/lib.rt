@@ -14,10 +14,12 @@ ghost use Rattle.layout.specs.Points.{HasPoints};
 ghost use Rattle.lent.specs.Fine.{Ready};
 ghost use Rattle.ending.specs.Keeps.{Keeps};
 ghost use Rattle.links.specs.Words.{HasLinks};
+ghost use Rattle.blocks.specs.Boxes.{behindEnd};
 ghost use Rattle.thin_ring.specs.Calls.{minima};
 ghost use Rattle.ring_reasons.specs.Table.{Cuts};
 ghost use Rattle.simplify_vw_preserve.specs.Calls.{LinkedAll, Wrapped, countBelow};
 ghost use Rattle.simplify_vw_preserve.specs.Whole.{ReadyRings, KeepsRings};
+use blocks::Blocks;
 use layout::Layout;
 use rule::Outcome;
 use rule::Thinned;
@@ -132,7 +134,8 @@ fn vwp_wrapper(
     second: usize,
     tolerance: f64,
 )
-    requires { ⌜ HasPoints m (now x) (now y) × Room m (now floats) (now words) × (m .points ≤ mostPoints) × Cuts (m .points) (now rings) ⌝ }
+    requires { ⌜ HasPoints m (now x) (now y) × Room m (now floats) (now words) × (m .points ≤ mostPoints) × Cuts (m .points) (now rings)
+        × (behindEnd m ≤ length (now floats)) ⌝ }
     ensures { λ _. ⌜ Wrapped (now (x .entry)) (now (y .entry)) (now (floats .entry)) (now (words .entry)) m (now (rings .entry)) (minima first second) tolerance
         (now (floats .exit)) (now (words .exit)) ⌝ }
 {
@@ -141,11 +144,25 @@ fn vwp_wrapper(
     if !lent::tolerance_positive(tolerance) {
         return;
     }
+    let b = Blocks::behind_heap(m);
+    blocks::set_up(x, y, floats, words, m, b);
     let mut lo = 0;
     let mut k = 0;
     while k < rings.len() {
         let hi = rings[k] as usize;
-        thin_ring::visvalingam_preserve(x, y, floats, words, m, lo, hi, first, second, tolerance);
+        thin_ring::visvalingam_preserve(
+            x,
+            y,
+            floats,
+            words,
+            m,
+            b,
+            lo,
+            hi,
+            first,
+            second,
+            tolerance,
+        );
         lo = hi;
         k += 1;
     }

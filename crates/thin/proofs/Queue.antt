@@ -8,7 +8,7 @@ use Prim.Native.Nat.{ℕ, suc, _+_, _*_, _≤_, _<_}
 use native.Mathlib.Omega.{arith}
 use lib.Dec.{eqb}
 use lib.ListN.{getD}
-use lib.Ieee.{Float}
+use lib.Ieee.{Float, nan}
 use borrow.Author.Tests.{eqb-true, eq-eqb, ne-eqb, le-ltb}
 use Rattle.rule.specs.Plain.{Candidate, before, least}
 use Rattle.laws.proofs.Kept.{Up}
@@ -80,6 +80,17 @@ module _ {σ : Scale} {P : VScore → Type 0} {fs : List Float} {ws : List ℕ} 
     where
       same : (k : ℕ) → k < len → scoreAt fs ws′ m k ≡ scoreAt fs ws m k
       same = scores-same fs ws fs ws′ m len (λ k l. refl) e
+
+  pub queue-floats : {len : ℕ} {All : ℕ → ℕ → ℕ → Type 0} (fs′ : List Float) → ((i : ℕ) → i < len → getD fs′ i nan ≡ getD fs i nan)
+      → Queue σ P fs ws m len All → Queue σ P fs′ ws m len All
+  queue-floats {len} {All} fs′ e q = record {
+    each = λ k l. subst P (sym (same k l)) (q .each k l);
+    order = heap-same (Le σ) len (scoreAt fs′ ws m) (scoreAt fs ws m) same (q .order);
+    all = λ l c r a. omega (arith, q .all l c r a, count-same (triple l c r) len (scoreAt fs′ ws m) (scoreAt fs ws m) same);
+  }
+    where
+      same : (k : ℕ) → k < len → scoreAt fs′ ws m k ≡ scoreAt fs ws m k
+      same = scores-same fs ws fs′ ws m len e (λ i p l. refl)
 
   module _ (φ : Faithful σ) (proper : (s : VScore) → P s → Proper σ s) {n : ℕ} {All : ℕ → ℕ → ℕ → Type 0} {fs′ : List Float} {ws′ : List ℕ} where
     pub queue-pop : {s : VScore} → Queue σ P fs ws m (suc n) All → Popped fs ws m n s fs′ ws′ → Queue σ P fs′ ws′ m n (λ l c r. All l c r × (Of l c r s → ⊥))

@@ -8,7 +8,7 @@ use Prim.Native.Nat.{ℕ, suc, _+_, _*_, _-_, _≤_, _<_}
 use native.Mathlib.Decide.{ℕ-discrete, decLt}
 use native.Mathlib.Omega.{arith}
 use lib.ListN.{length, getD}
-use lib.Ieee.{Float}
+use lib.Ieee.{Float, nan}
 use Rattle.rule.specs.Grid.{Point, half}
 use Rattle.rule.specs.Plain.{without, areaAt}
 use Rattle.laws.proofs.Kept.{Up}
@@ -32,12 +32,17 @@ use Rattle.scoring.proofs.Putting.{put-framed, put-count}
 use Rattle.thin.specs.Queue.{View, RingOf, Entry, QueueOf, But, Pick}
 use Rattle.thin.specs.State.{most, Rep, less, Suits, Removed}
 use Rattle.thin.proofs.Candidates.{triple-three, triple-fewer}
-use Rattle.thin.proofs.Queue.{And, queue-less, queue-as, queue-same, queue-put}
+use Rattle.thin.proofs.Queue.{And, queue-less, queue-as, queue-same, queue-floats, queue-put}
 
 -- ---- memory as long has the same room
 
 pub room-as : {m : Layout} {fs fs′ : List Float} {ws ws′ : List ℕ} → length fs′ ≡ length fs → length ws′ ≡ length ws → Room m fs ws → Room m fs′ ws′
 room-as f w r = record { areas = omega (arith, r .areas); scores = r .scores; linked = omega (arith, r .linked) }
+
+-- floats past the heap do not count
+pub rep-floats : {v : View} {fs fs′ : List Float} {ws : List ℕ} {m : Layout} {len : ℕ} → ((i : ℕ) → i < m .capacity → getD fs′ i nan ≡ getD fs i nan)
+    → Rep v fs ws m len → Rep v fs′ ws m len
+rep-floats {fs′ = fs′} e r = record { ring = r .ring; queue = queue-floats fs′ (λ i h. e i (omega (arith, r .room, r .fits))) (r .queue); room = r .room; fits = r .fits }
 
 -- ---- the score of a candidate is an entry
 
@@ -146,7 +151,7 @@ module _ (s : VScore) (demote : Bool) (t : Float) {us vs : List Float} {fs : Lis
 
   module _ (v : View) (ps : List Point) (g : ℕ → ℕ → ℕ → ℕ) (φ : Faithful (v .scale)) (placed : PlacedIn us vs m ps) (ring : RingOf v ws m)
       (pick : Pick v fs ws m len t s)
-      (few : suc len + 2 * (length (v .kept) - 2) ≤ most m) (fits : most m ≤ m .capacity) (suits : Suits v s ps g demote t) where
+      (few : suc len + (length (v .kept) - 2) ≤ most m) (fits : most m ≤ m .capacity) (suits : Suits v s ps g demote t) where
     abbrev rest : List ℕ
     rest = without (s .current) (v .kept)
 

@@ -18,15 +18,15 @@ use Rattle.layout.specs.Points.{PlacedIn}
 use Rattle.scoring.specs.Plot.{priced}
 use Rattle.thin.specs.Queue.{View, RingOf, QueueOf, Pick}
 
--- at most 3 (n - 2) scores are ever pushed
+-- at most 2 (n - 2) scores ever stand on the heap: n - 2 at first, and a removal takes one off and puts at most two on
 abbrev pub most : Layout → ℕ
-most m = 3 * (m .points - 2)
+most m = 2 * (m .points - 2)
 
 -- The links are those of the kept points, the heap has their candidates, and there is room for all scores that are to come.
 pub record Rep (v : View) (fs : List Float) (ws : List ℕ) (m : Layout) (len : ℕ) : Type 0 where
   pub ring : RingOf v ws m
   pub queue : QueueOf v fs ws m len (Triple (v .kept))
-  pub room : len + 2 * (length (v .kept) - 2) ≤ most m
+  pub room : len + (length (v .kept) - 2) ≤ most m
   pub fits : most m ≤ m .capacity
 
 -- ---- a removal
@@ -49,7 +49,7 @@ pub record Removed (us vs : List Float) (fs : List Float) (ws : List ℕ) (m : L
   pub links : (i : ℕ) → m .links ≤ i → getD ws′ i 0 ≡ getD (unlinked ws m s) i 0
   pub few : r ≤ m .capacity
   pub rep : (v : View) (ps : List Point) (g : ℕ → ℕ → ℕ → ℕ) → Faithful (v .scale) → PlacedIn us vs m ps → RingOf v ws m → Pick v fs ws m len t s
-      → suc len + 2 * (length (v .kept) - 2) ≤ most m → most m ≤ m .capacity → Suits v s ps g demote t → Rep (less v s g) fs′ ws′ m r
+      → suc len + (length (v .kept) - 2) ≤ most m → most m ≤ m .capacity → Suits v s ps g demote t → Rep (less v s g) fs′ ws′ m r
 
 -- ---- the beginning
 

@@ -18,8 +18,11 @@ use Rattle.links.specs.Words.{SameLinks}
 use Rattle.links.specs.Ring.{Ring}
 use Rattle.links.proofs.Memory.{same-from, ring-same}
 use Rattle.thin.specs.State.{most, Seeded}
+use Rattle.blocks.specs.declared.Blocks.{Blocks}
+use Rattle.blocks.specs.Boxes.{Free, boxesEnd}
+use Rattle.blocks.proofs.Kept.{boxed-same}
 use Rattle.thin_ring.specs.State.{Setting, beside, moveIn, leftIn, State, Ended, Given, Outside}
-use Rattle.thin_ring.specs.Calls.{MoveDone, RunDone, RingDone}
+use Rattle.thin_ring.specs.Calls.{Untouched, MoveDone, RunDone, RingDone}
 use Rattle.thin_ring.specs.declared.Moved.{Moved}
 use Rattle.thin_ring.specs.declared.Moved.the-variants as moved
 use Rattle.thin_ring.proofs.Moving.{others-same}
@@ -51,10 +54,11 @@ left-none g t q dem (k ∷ ks) h = absurd (omega arith)
 
 -- ---- what does not change
 
-pub outside-self : (fs : List Float) (ws : List ℕ) (m : Layout) → Outside fs ws m fs ws
-outside-self fs ws m = record { floats = λ i h. refl; before = λ i h. refl; after = λ i h. refl }
+pub outside-self : (end : ℕ) (fs : List Float) (ws : List ℕ) (m : Layout) → Outside end fs ws m fs ws
+outside-self end fs ws m = record { floats = λ i h. refl; before = λ i h. refl; after = λ i h. refl }
 
-pub outside-then : {fs fs′ fs″ : List Float} {ws ws′ ws″ : List ℕ} {m : Layout} → Outside fs ws m fs′ ws′ → Outside fs′ ws′ m fs″ ws″ → Outside fs ws m fs″ ws″
+pub outside-then : {end : ℕ} {fs fs′ fs″ : List Float} {ws ws′ ws″ : List ℕ} {m : Layout} → Outside end fs ws m fs′ ws′ → Outside end fs′ ws′ m fs″ ws″
+    → Outside end fs ws m fs″ ws″
 outside-then a b = record {
   floats = λ i h. b .floats i h ∙ a .floats i h;
   before = λ i h. b .before i h ∙ a .before i h;
@@ -64,65 +68,66 @@ outside-then a b = record {
 -- ---- the loop
 
 -- the ring has come to ks′ with dem′ demoted, of which the rule leaves what it leaves of ks
-pub record Under (g : Setting) (t : Float) (q : Minima) (dem ks : List ℕ) (fs′ : List Float) (ws′ : List ℕ) (m : Layout) (k kept : ℕ) : Type 0 where
+pub record Under (b : Blocks) (g : Setting) (t : Float) (q : Minima) (dem ks : List ℕ) (fs′ : List Float) (ws′ : List ℕ) (m : Layout) (k kept : ℕ) : Type 0 where
   pub dem′ : List ℕ
   pub ks′ : List ℕ
-  pub state : State g t dem′ ks′ fs′ ws′ m k
+  pub state : State b g t dem′ ks′ fs′ ws′ m k
   pub number : kept ≡ length ks′
   pub same : leftIn g t q dem ks ≡ leftIn g t q dem′ ks′
 
-pub record Going (us vs fs : List Float) (ws : List ℕ) (m : Layout) (len count : ℕ) (q : Minima) (t : Float)
+pub record Going (b : Blocks) (us vs fs : List Float) (ws : List ℕ) (m : Layout) (len count : ℕ) (q : Minima) (t : Float)
     (fs′ : List Float) (ws′ : List ℕ) (k kept : ℕ) : Type 0 where
   pub floats : length fs′ ≡ length fs
   pub words : length ws′ ≡ length ws
   pub few : k ≤ m .capacity
-  pub frame : Outside fs ws m fs′ ws′
-  pub under : (g : Setting) (dem ks : List ℕ) → Given us vs m t g → count ≡ length ks → State g t dem ks fs ws m len → Under g t q dem ks fs′ ws′ m k kept
+  pub frame : Outside (boxesEnd b) fs ws m fs′ ws′
+  pub under : (g : Setting) (dem ks : List ℕ) → Given us vs m t g → count ≡ length ks → State b g t dem ks fs ws m len → Under b g t q dem ks fs′ ws′ m k kept
 
-module _ {us vs fs : List Float} {ws : List ℕ} {m : Layout} {len count : ℕ} {q : Minima} {t : Float} where
-  pub run-start : len ≤ m .capacity → Going us vs fs ws m len count q t fs ws len count
+module _ {b : Blocks} {us vs fs : List Float} {ws : List ℕ} {m : Layout} {len count : ℕ} {q : Minima} {t : Float} where
+  pub run-start : len ≤ m .capacity → Going b us vs fs ws m len count q t fs ws len count
   run-start h = record {
     floats = refl;
     words = refl;
     few = h;
-    frame = outside-self fs ws m;
+    frame = outside-self (boxesEnd b) fs ws m;
     under = λ g dem ks a e st. record { dem′ = dem; ks′ = ks; state = st; number = e; same = refl };
   }
 
-  module _ {fs′ : List Float} {ws′ : List ℕ} {k kept : ℕ} (s : Going us vs fs ws m len count q t fs′ ws′ k kept) where
+  module _ {fs′ : List Float} {ws′ : List ℕ} {k kept : ℕ} (s : Going b us vs fs ws m len count q t fs′ ws′ k kept) where
     -- the links are those of a state from which the rule removes nothing
-    ended : (ws″ : List ℕ) → ((i : ℕ) → m .links ≤ i → getD ws″ i 0 ≡ getD ws′ i 0) → (g : Setting) (dem ks : List ℕ) (u : Under g t q dem ks fs′ ws′ m k kept)
-        → leftIn g t q (u .dem′) (u .ks′) ≡ u .ks′ → Ended g (leftIn g t q dem ks) ws″ m
-    ended ws″ same g dem ks u e =
+    ended : (fs″ : List Float) (ws″ : List ℕ) → Untouched b fs′ ws′ m fs″ ws″ → (g : Setting) (dem ks : List ℕ) (u : Under b g t q dem ks fs′ ws′ m k kept)
+        → leftIn g t q (u .dem′) (u .ks′) ≡ u .ks′ → Ended b g (leftIn g t q dem ks) fs″ ws″ m
+    ended fs″ ws″ same g dem ks u e =
         let r = u .state .rep .ring in
         record {
           ring = subst (Ring ws″ m (g .lo) (g .hi)) (sym (u .same ∙ e)) (ring-same {ws = ws′} {m = m} {ws′ = ws″} (λ i l h. at i) r);
           others = others-same (λ i w h. at i) (omega (arith, r .from, r .to)) (u .state .others);
+          boxed = boxed-same (same .boxes) (same .links) (u .state .boxed);
         }
       where
         at : (i : ℕ) → SameLinks ws′ m ws″ i
-        at = same-from same
+        at = same-from (same .links)
 
     -- no point is left
-    pub run-none : kept ≤ 0 → RunDone us vs fs ws m len count q t fs′ ws′
+    pub run-none : kept ≤ 0 → RunDone b us vs fs ws m len count q t fs′ ws′
     run-none h = record {
       frame = s .frame;
       does = λ g dem ks a e st.
           let u = s .under g dem ks a e st in
-          ended ws′ (λ i z. refl) g dem ks u (left-none g t q (u .dem′) (u .ks′) (omega (arith, u .number)));
+          ended fs′ ws′ (record { boxes = λ i z. refl; links = λ i z. refl }) g dem ks u (left-none g t q (u .dem′) (u .ks′) (omega (arith, u .number)));
     }
 
     module _ {fs″ : List Float} {ws″ : List ℕ} where
-      pub run-stop : MoveDone us vs fs′ ws′ m k kept q t fs″ ws″ moved.Stopped → RunDone us vs fs ws m len count q t fs″ ws″
+      pub run-stop : MoveDone b us vs fs′ ws′ m k kept q t fs″ ws″ moved.Stopped → RunDone b us vs fs ws m len count q t fs″ ws″
       run-stop d = record {
         frame = outside-then (s .frame) (d .frame);
         does = λ g dem ks a e st.
             let u = s .under g dem ks a e st in
-            ended ws″ (d .moved .0) g dem ks u (left-stop g t q (u .dem′) (u .ks′) (d .moved .1 g (u .dem′) (u .ks′) a (u .number) (u .state)));
+            ended fs″ ws″ (d .moved .0) g dem ks u (left-stop g t q (u .dem′) (u .ks′) (d .moved .1 g (u .dem′) (u .ks′) a (u .number) (u .state)));
       }
 
-      pub run-turn : {j : ℕ} → length fs″ ≡ length fs′ → length ws″ ≡ length ws′ → MoveDone us vs fs′ ws′ m k kept q t fs″ ws″ (moved.Removed j)
-          → Going us vs fs ws m len count q t fs″ ws″ j (kept - 1)
+      pub run-turn : {j : ℕ} → length fs″ ≡ length fs′ → length ws″ ≡ length ws′ → MoveDone b us vs fs′ ws′ m k kept q t fs″ ws″ (moved.Removed j)
+          → Going b us vs fs ws m len count q t fs″ ws″ j (kept - 1)
       run-turn {j} lf lw d = record {
         floats = lf ∙ s .floats;
         words = lw ∙ s .words;
@@ -140,31 +145,31 @@ module _ {us vs fs : List Float} {ws : List ℕ} {m : Layout} {len count : ℕ} 
             };
       }
 
-  pub moved-as : {fs′ : List Float} {ws′ : List ℕ} {r o : Moved} → r ≡ o → MoveDone us vs fs ws m len count q t fs′ ws′ r → MoveDone us vs fs ws m len count q t fs′ ws′ o
-  moved-as {fs′} {ws′} e d = subst (λ (z : Moved). MoveDone us vs fs ws m len count q t fs′ ws′ z) e d
+  pub moved-as : {fs′ : List Float} {ws′ : List ℕ} {r o : Moved} → r ≡ o → MoveDone b us vs fs ws m len count q t fs′ ws′ r → MoveDone b us vs fs ws m len count q t fs′ ws′ o
+  moved-as {fs′} {ws′} e d = subst (λ (z : Moved). MoveDone b us vs fs ws m len count q t fs′ ws′ z) e d
 
 -- ---- a whole ring
 
-pub ring-law : (us vs fs : List Float) (ws : List ℕ) (m : Layout) (lo hi : ℕ) (q : Minima) (t : Float) → Room m fs ws
+pub ring-law : (b : Blocks) (us vs fs : List Float) (ws : List ℕ) (m : Layout) (lo hi : ℕ) (q : Minima) (t : Float) → Room m fs ws → Free b m fs
     → {fs₁ : List Float} {ws₁ : List ℕ} {len : ℕ} → Seeded us vs fs ws m lo hi fs₁ ws₁ len
-    → {fs₂ : List Float} {ws₂ : List ℕ} → RunDone us vs fs₁ ws₁ m len (hi - lo) q t fs₂ ws₂ → RingDone us vs fs ws m lo hi q t fs₂ ws₂
-ring-law us vs fs ws m lo hi q t room {fs₁} {ws₁} {len} sd {fs₂} {ws₂} rd = record {
+    → {fs₂ : List Float} {ws₂ : List ℕ} → RunDone b us vs fs₁ ws₁ m len (hi - lo) q t fs₂ ws₂ → RingDone b us vs fs ws m lo hi q t fs₂ ws₂
+ring-law b us vs fs ws m lo hi q t room free {fs₁} {ws₁} {len} sd {fs₂} {ws₂} rd = record {
   frame = outside-then (record {
-    floats = sd .framed .floats;
+    floats = λ i h. seeded .boxes i (omega arith);
     before = sd .framed .before;
-    after = λ i h. same i (omega arith);
+    after = λ i h. seeded .links i (omega arith);
   }) (rd .frame);
   does = does;
 }
   where
-    same : (i : ℕ) → m .links ≤ i → getD ws₁ i 0 ≡ getD ws i 0
-    same i h = sd .framed .after i (omega (arith, room .scores))
+    seeded : Untouched b fs ws m fs₁ ws₁
+    seeded = record { boxes = λ i h. sd .framed .floats i (omega (arith, free .past)); links = λ i h. sd .framed .after i (omega (arith, room .scores)) }
 
     at : (i : ℕ) → SameLinks ws m ws₁ i
-    at = same-from same
+    at = same-from (seeded .links)
 
-    does : (g : Setting) → Given us vs m t g → g .lo ≡ lo → g .hi ≡ hi → most m ≤ m .capacity → Ended g (indices lo (hi - lo)) ws m
-        → Ended g (leftIn g t q [] (indices lo (hi - lo))) ws₂ m
+    does : (g : Setting) → Given us vs m t g → g .lo ≡ lo → g .hi ≡ hi → most m ≤ m .capacity → Ended b g (indices lo (hi - lo)) fs ws m
+        → Ended b g (leftIn g t q [] (indices lo (hi - lo))) fs₂ ws₂ m
     does g a el eh fits e =
         rd .does g [] (indices lo (hi - lo)) a (sym (length-indices lo (hi - lo))) (record {
           rep = rw (el, eh)
@@ -172,4 +177,5 @@ ring-law us vs fs ws m lo hi q t room {fs₁} {ws₁} {len} sd {fs₂} {ws₂} r
               (rw (el, eh) at (e .ring)) fits);
           once = tt;
           others = others-same (λ i w h. at i) (omega (arith, e .ring .from, e .ring .to)) (e .others);
+          boxed = boxed-same (seeded .boxes) (seeded .links) (e .boxed);
         })

@@ -12,6 +12,8 @@ use Rattle.layout.specs.declared.Layout.{Layout}
 use Rattle.layout.specs.Points.{PlacedIn}
 use Rattle.vscore.specs.Scale.{demotable}
 use Rattle.links.specs.Ring.{Ring, Rings}
+use Rattle.blocks.specs.declared.Blocks.{Blocks}
+use Rattle.blocks.specs.Boxes.{Boxed}
 use Rattle.thin.specs.Queue.{View}
 use Rattle.thin.specs.State.{Rep}
 
@@ -54,15 +56,17 @@ pub record Others (g : Setting) (ws : List ℕ) (m : Layout) : Type 0 where
   pub after : Rings ws m (g .hi) (m .points) (g .endsAfter) (g .after)
 
 -- the ring, of which ks are kept and dem demoted
-pub record State (g : Setting) (t : Float) (dem ks : List ℕ) (fs : List Float) (ws : List ℕ) (m : Layout) (len : ℕ) : Type 0 where
+pub record State (b : Blocks) (g : Setting) (t : Float) (dem ks : List ℕ) (fs : List Float) (ws : List ℕ) (m : Layout) (len : ℕ) : Type 0 where
   pub rep : Rep (view g t dem ks) fs ws m len
   pub once : Once dem
   pub others : Others g ws m
+  pub boxed : Boxed b m (g .points) fs ws
 
 -- the ring, of which ks are kept, at its end
-pub record Ended (g : Setting) (ks : List ℕ) (ws : List ℕ) (m : Layout) : Type 0 where
+pub record Ended (b : Blocks) (g : Setting) (ks : List ℕ) (fs : List Float) (ws : List ℕ) (m : Layout) : Type 0 where
   pub ring : Ring ws m (g .lo) (g .hi) ks
   pub others : Others g ws m
+  pub boxed : Boxed b m (g .points) fs ws
 
 -- the points are lent, with a tolerance above zero
 pub record Given (us vs : List Float) (m : Layout) (t : Float) (g : Setting) : Type 0 where
@@ -70,8 +74,8 @@ pub record Given (us vs : List Float) (m : Layout) (t : Float) (g : Setting) : T
   pub finite : isFinite t ≡ true
   pub above : positive t ≡ true
 
--- nothing but the heap and the links changed
-pub record Outside (fs : List Float) (ws : List ℕ) (m : Layout) (fs′ : List Float) (ws′ : List ℕ) : Type 0 where
-  pub floats : (i : ℕ) → m .capacity ≤ i → getD fs′ i nan ≡ getD fs i nan
+-- nothing but the floats before `end`, the heap and the links changed
+pub record Outside (end : ℕ) (fs : List Float) (ws : List ℕ) (m : Layout) (fs′ : List Float) (ws′ : List ℕ) : Type 0 where
+  pub floats : (i : ℕ) → end ≤ i → getD fs′ i nan ≡ getD fs i nan
   pub before : (i : ℕ) → i < m .heap → getD ws′ i 0 ≡ getD ws i 0
   pub after : (i : ℕ) → m .links + 3 * m .points ≤ i → getD ws′ i 0 ≡ getD ws i 0

@@ -6,7 +6,9 @@ ghost use lib.Dec.{leb};
 ghost use Rattle.rule.specs.Sizes.{mostPoints};
 ghost use Rattle.layout.specs.Layout.{Room};
 ghost use Rattle.layout.specs.Points.{HasPoints};
+ghost use Rattle.blocks.specs.Boxes.{Free};
 ghost use Rattle.thin_ring.specs.Calls.{minima, MoveDone, RunDone, RingDone};
+use blocks::Blocks;
 use layout::Layout;
 use thin::Picked;
 
@@ -17,14 +19,15 @@ pub fn visvalingam_preserve(
     floats: &mut [f64],
     words: &mut [u32],
     m: Layout,
+    b: Blocks,
     lo: usize,
     hi: usize,
     first: usize,
     second: usize,
     tolerance: f64,
 )
-    requires { ⌜ HasPoints m (now x) (now y) × Room m (now floats) (now words) × (m .points ≤ mostPoints) × (lo ≤ hi) × (hi ≤ m .points) ⌝ }
-    ensures { λ _. ⌜ RingDone (now (x .entry)) (now (y .entry)) (now (floats .entry)) (now (words .entry)) m lo hi (minima first second) tolerance
+    requires { ⌜ HasPoints m (now x) (now y) × Room m (now floats) (now words) × (m .points ≤ mostPoints) × (lo ≤ hi) × (hi ≤ m .points) × Free b m (now floats) ⌝ }
+    ensures { λ _. ⌜ RingDone b (now (x .entry)) (now (y .entry)) (now (floats .entry)) (now (words .entry)) m lo hi (minima first second) tolerance
         (now (floats .exit)) (now (words .exit)) ⌝ }
 {
     let len = thin::seed(x, y, floats, words, m, lo, hi);
@@ -34,6 +37,7 @@ pub fn visvalingam_preserve(
         floats,
         words,
         m,
+        b,
         len,
         hi - lo,
         first,
@@ -49,20 +53,33 @@ fn run(
     floats: &mut [f64],
     words: &mut [u32],
     m: Layout,
+    b: Blocks,
     len: usize,
     count: usize,
     first: usize,
     second: usize,
     tolerance: f64,
 )
-    requires { ⌜ HasPoints m (now x) (now y) × Room m (now floats) (now words) × (len ≤ m .capacity) ⌝ }
-    ensures { λ _. ⌜ RunDone (now (x .entry)) (now (y .entry)) (now (floats .entry)) (now (words .entry)) m len count (minima first second) tolerance
+    requires { ⌜ HasPoints m (now x) (now y) × Room m (now floats) (now words) × (len ≤ m .capacity) × Free b m (now floats) ⌝ }
+    ensures { λ _. ⌜ RunDone b (now (x .entry)) (now (y .entry)) (now (floats .entry)) (now (words .entry)) m len count (minima first second) tolerance
         (now (floats .exit)) (now (words .exit)) ⌝ }
 {
     let mut left = len;
     let mut kept = count;
     while 0 < kept {
-        let got = advance(x, y, floats, words, m, left, kept, first, second, tolerance);
+        let got = advance(
+            x,
+            y,
+            floats,
+            words,
+            m,
+            b,
+            left,
+            kept,
+            first,
+            second,
+            tolerance,
+        );
         match got {
             Moved::Stopped => {
                 return;
@@ -88,14 +105,15 @@ fn advance(
     floats: &mut [f64],
     words: &mut [u32],
     m: Layout,
+    b: Blocks,
     len: usize,
     count: usize,
     first: usize,
     second: usize,
     tolerance: f64,
 ) -> Moved
-    requires { ⌜ HasPoints m (now x) (now y) × Room m (now floats) (now words) × (len ≤ m .capacity) ⌝ }
-    ensures { λ r. ⌜ MoveDone (now (x .entry)) (now (y .entry)) (now (floats .entry)) (now (words .entry)) m len count (minima first second) tolerance
+    requires { ⌜ HasPoints m (now x) (now y) × Room m (now floats) (now words) × (len ≤ m .capacity) × Free b m (now floats) ⌝ }
+    ensures { λ r. ⌜ MoveDone b (now (x .entry)) (now (y .entry)) (now (floats .entry)) (now (words .entry)) m len count (minima first second) tolerance
         (now (floats .exit)) (now (words .exit)) r ⌝ }
 {
     let got = thin::pick(floats, words, m, len, tolerance);
@@ -105,11 +123,14 @@ fn advance(
             if count <= first {
                 return Moved::Stopped;
             }
-            let crossed = crossing::crosses(x, y, words, m, s.left as usize, s.right as usize);
+            let l = s.left as usize;
+            let r = s.right as usize;
+            let crossed = crossing::crosses(x, y, floats, words, m, b, l, r);
             if barred(crossed, count, second) {
                 return Moved::Stopped;
             }
             let n = thin::remove(x, y, floats, words, m, k, s, crossed, tolerance);
+            blocks::cover(x, y, floats, m, b, l, r);
             Moved::Removed(n)
         }
     }

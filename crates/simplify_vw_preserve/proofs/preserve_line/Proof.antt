@@ -1,7 +1,7 @@
 -- `simplify_vw_preserve::preserve_line` meets its contract. Assumes nothing.
 use borrow.Author.Needs.{needs}
 use Rattle.lent.proofs.Points.{runs-fit}
-use Rattle.simplify_vw_preserve.proofs.Whole.{one-ring, keeps-line}
+use Rattle.simplify_vw_preserve.proofs.Whole.{one-ring, behind-fits, keeps-line}
 use Rattle.simplify_vw_preserve.proofs.preserve_line.Statement.{statement}
 use Rattle.simplify_vw_preserve.proofs.preserve_line.Tie as tie
 
@@ -12,8 +12,9 @@ module _ (s : tie.After-scratch) where
 vwp-wrapper-requires : tie.Need-vwp-wrapper-requires
 vwp-wrapper-requires c κs =
     let s = c .before .before .before in
-    let f = runs-fit (start s .pre) (s .scratch .ensures) in
-    (f .0, f .1, f .2, rw (s .scratch .ensures) (one-ring _))
+    let p = start s .pre in
+    let f = runs-fit p (s .scratch .ensures) in
+    (f .0, f .1, f .2, rw (s .scratch .ensures) (one-ring _), behind-fits p (s .scratch .ensures))
 
 returns : tie.Need-returns
 returns c =

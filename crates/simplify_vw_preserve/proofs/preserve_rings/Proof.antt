@@ -2,7 +2,7 @@
 use native.Mathlib.Omega.{arith}
 use borrow.Author.Needs.{needs}
 use Rattle.lent.proofs.Points.{runs-fit}
-use Rattle.simplify_vw_preserve.proofs.Whole.{keeps-rings}
+use Rattle.simplify_vw_preserve.proofs.Whole.{behind-fits, keeps-rings}
 use Rattle.simplify_vw_preserve.proofs.preserve_rings.Statement.{statement}
 use Rattle.simplify_vw_preserve.proofs.preserve_rings.Tie as tie
 
@@ -23,7 +23,7 @@ vwp-wrapper-requires c κs =
     let s = c .before .before in
     let p = start s .pre in
     let f = runs-fit (p .line) (s .scratch .ensures) in
-    (f .0, f .1, f .2, rw (s .scratch .ensures) (p .cuts))
+    (f .0, f .1, f .2, rw (s .scratch .ensures) (p .cuts), behind-fits (p .line) (s .scratch .ensures))
 
 list-ends-requires : tie.Need-list-ends-requires
 list-ends-requires c κs =

@@ -2,17 +2,18 @@
 use native.Mathlib.Omega.{arith}
 use borrow.Author.Needs.{needs}
 use Rattle.thin.proofs.Removing.{room-as}
+use Rattle.blocks.proofs.Stored.{free-as}
 use Rattle.thin_ring.specs.Calls.{minima}
 use Rattle.thin_ring.proofs.Running.{Going, run-start, run-none, run-stop, run-turn, moved-as}
 use Rattle.thin_ring.proofs.run.Statement.{statement}
 use Rattle.thin_ring.proofs.run.Tie as tie
 
 abbrev Inv-loop : tie.InvT-loop
-Inv-loop x y floats₀ words₀ m len count first second tolerance scores₀ kept₀ floats words scores kept =
-    Going x y floats₀ words₀ m len count (minima first second) tolerance floats words scores kept
+Inv-loop x y floats₀ words₀ m b len count first second tolerance scores₀ kept₀ floats words scores kept =
+    Going b x y floats₀ words₀ m len count (minima first second) tolerance floats words scores kept
 
 abbrev μ-loop : tie.MeasureT-loop
-μ-loop x y floats₀ words₀ m len count first second tolerance scores₀ kept₀ floats words scores kept = kept
+μ-loop x y floats₀ words₀ m b len count first second tolerance scores₀ kept₀ floats words scores kept = kept
 
 loop-holds : tie.Need-loop-holds Inv-loop μ-loop
 loop-holds c = run-start (c .before .before .before .before .pre .2)
@@ -22,7 +23,7 @@ advance-requires c κs =
     let l = c .before .before .before in
     let s = l .loop .inv in
     let z = l .before .before .before .before .before .pre in
-    (z .0, room-as (s .floats) (s .words) (z .1), s .few)
+    (z .0, room-as (s .floats) (s .words) (z .1), s .few, free-as (s .floats) (z .3))
 
 same-length : tie.Need-same-length Inv-loop μ-loop
 same-length c =

@@ -1,0 +1,4 @@
+-- The laws that the crates above cite.
+pub mod Stored
+pub mod Made
+pub mod Kept

@@ -1,0 +1,147 @@
+-- The walk through the links, and the test block by block: a block whose box is apart from the new segment's has no segment that meets it. Assumes nothing.
+use mathlib.Core.Path.{_≡_, refl, sym, ap, _∙_, subst}
+use mathlib.Core.Bool.{Bool, true, false, not, cond, _&&_, _||_, and-false, false≢true}
+use mathlib.Core.List.{List}
+use mathlib.Core.Logic.{_⊎_, inl, inr}
+use Prim.Native.Nat.{ℕ, suc, _+_, _*_, _/_, _≤_, _<_}
+use native.Mathlib.Decide.{decLt}
+use native.Mathlib.Nat.{div-eq-of-lt-le, add-mul}
+use native.Mathlib.Omega.{arith}
+use lib.Dec.{ltb}
+use lib.Ieee.{Float}
+use Rattle.rule.specs.Grid.{Point, at}
+use Rattle.rule.specs.Segment.{same, meets}
+use Rattle.rule.specs.Preserve.{against}
+use Rattle.layout.specs.declared.Layout.{Layout}
+use Rattle.layout.specs.Points.{PlacedIn}
+use Rattle.links.specs.Words.{nextAt, markAt, Starts}
+use Rattle.links.proofs.Rings.{none-between}
+use Rattle.bounds.specs.declared.Bounds.{Bounds}
+use Rattle.bounds.specs.Bounds.{ofNone, apart}
+use Rattle.bounds.proofs.Within.{none-on, apart-none}
+use Rattle.blocks.specs.declared.Blocks.{Blocks}
+use Rattle.blocks.specs.Boxes.{boxAt, spanned, Spans, Boxed}
+use Rattle.blocks.proofs.Made.{Spanning, spanned-both}
+use Rattle.crossing.specs.declared.Walked.{Walked}
+use Rattle.crossing.specs.Crossing.{StandsIs, CrossesIs}
+use Rattle.crossing.specs.Passing.{EndOf, SkipIs, Ringed, NoneAgainst, Walks, WalkDone, Beyond}
+use Rattle.crossing.proofs.Crossing.{rings-false, stands-as}
+
+-- ---- from a point to the next
+
+pub beyond-next : (ws : List ℕ) (m : Layout) {i j : ℕ} → i < m .points → markAt ws m i ≡ 0 → j ≡ nextAt ws m i → i < j → j < m .points → Beyond m ws i j
+beyond-next ws m {i} {j} hi k e up hj = record {
+  up = up;
+  none = λ g n a b s.
+      none-between ws m 0 (g .ends) (g .kept) (g .rings) i (omega arith) hi (record { kept = k; ahead = omega (arith, e) }) n a (omega (arith, e)) (s .kept);
+}
+
+-- no present segment that starts from point lo to point i is against the one from l to r
+pub record Walking (m : Layout) (us vs : List Float) (ws : List ℕ) (lo l r i : ℕ) : Type 0 where
+  pub none : (ps : List Point) → PlacedIn us vs m ps → Ringed ws m → NoneAgainst m ps ws lo i l r
+
+module _ (m : Layout) (us vs : List Float) (ws : List ℕ) (lo l r : ℕ) where
+  pub walking-start : Walking m us vs ws lo l r lo
+  walking-start = record { none = λ ps p g i low high. absurd (omega arith) }
+
+  pub walking-more : l < m .points → r < m .points → {i : ℕ} → i < m .points → {c : Bool} → StandsIs m us vs ws i l r c → c ≡ false
+      → {j : ℕ} → Beyond m ws i j → Walking m us vs ws lo l r i → Walking m us vs ws lo l r j
+  walking-more hl hr {i} hi {c} h e {j} b s = record { none = λ ps p g k low high st. go ps p g k low high st (decLt k i) (decLt i k) }
+    where
+      go : (ps : List Point) → PlacedIn us vs m ps → Ringed ws m → (k : ℕ) → lo ≤ k → k < j → Starts ws m k → Dec (k < i) → Dec (i < k)
+          → against ps l r k (nextAt ws m k) ≡ false
+      go ps p g k low high st (yes w) z = s .none ps p g k low w st
+      go ps p g k low high st (no w) (yes z) = absurd (b .none g k z high st)
+      go ps p g k low high st (no w) (no z) =
+          let y : i ≡ k = omega (arith, w, z) in
+          subst (λ (n : ℕ). Starts ws m n → against ps l r n (nextAt ws m n) ≡ false) y (λ v. stands-as m us vs ws l r hl hr hi h ps p v ∙ e) st
+
+-- ---- block after block
+
+meets-not : (ps : List Point) (l r a b : ℕ) → meets (at ps a) (at ps b) (at ps l) (at ps r) ≡ false → against ps l r a b ≡ false
+unfolding against
+meets-not ps l r a b e =
+    rw e (and-false (not (same (at ps a) (at ps l) || same (at ps a) (at ps r) || same (at ps b) (at ps l) || same (at ps b) (at ps r))))
+
+both : (c d : Bool) → (c && d) ≡ true → d ≡ true
+both true d e = e
+both false d e = absurd (false≢true e)
+
+module _ (b : Blocks) (m : Layout) (us vs fs : List Float) (ws : List ℕ) (l r : ℕ) where
+  -- block k begins at point `start`, and the points below `from` are passed
+  pub record Tested (from start k : ℕ) : Type 0 where
+    pub low : start ≤ m .points
+    pub near : start ≤ from
+    pub block : (start ≡ k * b .size) ⊎ (start ≡ m .points)
+    pub none : (ps : List Point) → PlacedIn us vs m ps → Boxed b m ps fs ws → Ringed ws m → NoneAgainst m ps ws 0 from l r
+
+  pub tested-start : Tested 0 0 0
+  tested-start = record { low = omega arith; near = omega arith; block = inl (omega arith); none = λ ps p bx g i low high. absurd (omega arith) }
+
+  module _ {from start k end : ℕ} (t : Tested from start k) (n : EndOf start (b .size) (m .points) end) (hl : l < m .points) (hr : r < m .points) (low : k < b .number) where
+    -- the box of the block is apart from that of the new segment
+    apart-block : apart (boxAt fs b k) (spanned m us vs ofNone l r) ≡ true
+        → (ps : List Point) → PlacedIn us vs m ps → Boxed b m ps fs ws → NoneAgainst m ps ws from end l r
+    apart-block e ps p bx i lo hi st =
+        meets-not ps l r i (nextAt ws m i)
+        (apart-none (boxAt fs b k) (spanned m us vs ofNone l r) (bx .on k low) (s .on) (held .first) (held .second) (s .new .first) (s .new .second) e)
+      where
+        here : (start ≡ k * b .size) ⊎ (start ≡ m .points) → i / b .size ≡ k
+        here (inl w) = div-eq-of-lt-le (b .size) (omega (arith, t .near)) (omega (arith, n .few, add-mul k 1 (b .size)))
+        here (inr w) = absurd (omega (arith, n .within, t .near))
+
+        held : Spans ps i (nextAt ws m i) (boxAt fs b k)
+        held =
+            let z = here (t .block) in
+            subst (λ (x : ℕ). Spans ps i (nextAt ws m i) (boxAt fs b x)) z (bx .holds i (omega (arith, n .within)) (omega (arith, z)) st)
+
+        s : Spanning ps ofNone l r (spanned m us vs ofNone l r)
+        s = spanned-both m us vs ps ofNone l r p hl hr none-on
+
+    next-start : (start ≡ k * b .size) ⊎ (start ≡ m .points) → (end ≡ start + b .size) ⊎ (end ≡ m .points) → (end ≡ (k + 1) * b .size) ⊎ (end ≡ m .points)
+    next-start w (inr z) = inr z
+    next-start (inl w) (inl z) = inl (omega (arith, add-mul k 1 (b .size)))
+    next-start (inr w) (inl z) = inr (omega (arith, n .within))
+
+    pub tested-more : {none new : Bounds} → none ≡ ofNone → new ≡ spanned m us vs none l r → {lo j : ℕ} → SkipIs fs b k new from end lo → Walks m us vs ws lo end l r j
+        → Tested j end (k + 1)
+    tested-more {none} {new} f h {lo} {j} e w = record {
+      low = n .within;
+      near = w .far;
+      block = next-start (t .block) (n .all);
+      none = λ ps p bx g i a z st. go ps p bx g i z st (decLt i from) (ltb from end && apart (boxAt fs b k) new) refl;
+    }
+      where
+        go : (ps : List Point) → PlacedIn us vs m ps → Boxed b m ps fs ws → Ringed ws m → (i : ℕ) → i < j → Starts ws m i → Dec (i < from)
+            → (c : Bool) → (ltb from end && apart (boxAt fs b k) new) ≡ c → against ps l r i (nextAt ws m i) ≡ false
+        go ps p bx g i z st (yes q) c y = t .none ps p bx g i (omega arith) q st
+        go ps p bx g i z st (no q) false y =
+            let lo-is : lo ≡ from = e ∙ ap (λ (c : Bool). cond c end from) y in
+            w .none ps p g i (omega (arith, q, lo-is)) z st
+        go ps p bx g i z st (no q) true y = past (decLt i end)
+          where
+            lo-is : lo ≡ end
+            lo-is = e ∙ ap (λ (c : Bool). cond c end from) y
+
+            new-is : new ≡ spanned m us vs ofNone l r
+            new-is = subst (λ (c : Bounds). new ≡ spanned m us vs c l r) f h
+
+            is-apart : apart (boxAt fs b k) (spanned m us vs ofNone l r) ≡ true
+            is-apart = subst (λ (c : Bounds). apart (boxAt fs b k) c ≡ true) new-is (both (ltb from end) (apart (boxAt fs b k) new) y)
+
+            past : Dec (i < end) → against ps l r i (nextAt ws m i) ≡ false
+            past (yes v) = apart-block is-apart ps p bx i (omega (arith, q)) v st
+            past (no v) = w .none ps p g i (omega (arith, v, lo-is)) z st
+
+  pub tested-end : {from start k j : ℕ} → Tested from start k → Walks m us vs ws from (m .points) l r j → CrossesIs b m us vs fs ws l r false
+  tested-end {from} t w ps ends kss p bx rs = sym (rings-false ps l r ws m 0 ends kss rs (λ i h st. go i h st (decLt i from)))
+    where
+      g : Ringed ws m
+      g = record { ends = ends; kept = kss; rings = rs }
+
+      go : (i : ℕ) → i < m .points → Starts ws m i → Dec (i < from) → against ps l r i (nextAt ws m i) ≡ false
+      go i h st (yes z) = t .none ps p bx g i (omega arith) z st
+      go i h st (no z) = w .none ps p g i (omega (arith, z)) (omega (arith, w .far)) st
+
+pub walk-as : {m : Layout} {us vs : List Float} {ws : List ℕ} {lo hi l r : ℕ} {c d : Walked} → c ≡ d → WalkDone m us vs ws lo hi l r c → WalkDone m us vs ws lo hi l r d
+walk-as {m} {us} {vs} {ws} {lo} {hi} {l} {r} e h = subst (WalkDone m us vs ws lo hi l r) e h

@@ -1,0 +1,61 @@
+-- What the parts of the test promise: where a block ends, where to walk on in it, and what a walk finds. Assumes nothing.
+use mathlib.Core.Path.{_≡_}
+use mathlib.Core.Bool.{true, false, _&&_, cond}
+use mathlib.Core.List.{List}
+use mathlib.Core.Logic.{_⊎_}
+use Prim.Native.Nat.{ℕ, _+_, _≤_, _<_}
+use lib.Dec.{ltb}
+use lib.Ieee.{Float}
+use Rattle.rule.specs.Grid.{Point}
+use Rattle.rule.specs.Preserve.{against, crosses}
+use Rattle.layout.specs.declared.Layout.{Layout}
+use Rattle.layout.specs.Points.{PlacedIn}
+use Rattle.links.specs.Words.{nextAt, Starts}
+use Rattle.links.specs.Ring.{Rings}
+use Rattle.bounds.specs.declared.Bounds.{Bounds}
+use Rattle.bounds.specs.Bounds.{apart}
+use Rattle.blocks.specs.declared.Blocks.{Blocks}
+use Rattle.blocks.specs.Boxes.{boxAt}
+use Rattle.crossing.specs.declared.Walked.{Walked}
+use Rattle.crossing.specs.declared.Walked.the-variants.{Against, Passed}
+
+-- of n points, a block that starts at `start` ends at e
+pub record EndOf (start size n e : ℕ) : Type 0 where
+  pub within : e ≤ n
+  pub few : e ≤ start + size
+  pub all : (e ≡ start + size) ⊎ (e ≡ n)
+
+-- where to walk on in block k, which ends at `end`, if the points below `from` are passed
+abbrev pub SkipIs : List Float → Blocks → ℕ → Bounds → (from end r : ℕ) → Type 0
+SkipIs fs b k new from end r = r ≡ cond (ltb from end && apart (boxAt fs b k) new) end from
+
+-- the links are those of rings, each by where it ends and what is kept of it
+pub record Ringed (ws : List ℕ) (m : Layout) : Type 0 where
+  pub ends : List ℕ
+  pub kept : List (List ℕ)
+  pub rings : Rings ws m 0 (m .points) ends kept
+
+-- no present segment that starts from point lo to point hi is against the one from l to r
+abbrev pub NoneAgainst : Layout → List Point → List ℕ → (lo hi l r : ℕ) → Type 0
+NoneAgainst m ps ws lo hi l r = (i : ℕ) → lo ≤ i → i < hi → Starts ws m i → against ps l r i (nextAt ws m i) ≡ false
+
+-- the walk came to point j, which is not before hi, and none is against that starts before it
+pub record Walks (m : Layout) (us vs : List Float) (ws : List ℕ) (lo hi l r j : ℕ) : Type 0 where
+  pub far : hi ≤ j
+  pub none : (ps : List Point) → PlacedIn us vs m ps → Ringed ws m → NoneAgainst m ps ws lo j l r
+
+-- one is
+abbrev pub Crosses : Layout → (us vs : List Float) (ws : List ℕ) (l r : ℕ) → Type 0
+Crosses m us vs ws l r = (ps : List Point) (ends : List ℕ) (kss : List (List ℕ)) → PlacedIn us vs m ps → Rings ws m 0 (m .points) ends kss → crosses ps l r kss ≡ true
+
+abbrev pub WalkIs : Layout → (us vs : List Float) (ws : List ℕ) (lo hi l r : ℕ) → Walked → Type 0
+WalkIs m us vs ws lo hi l r Against = Crosses m us vs ws l r
+WalkIs m us vs ws lo hi l r (Passed j) = Walks m us vs ws lo hi l r j
+
+pub record WalkDone (m : Layout) (us vs : List Float) (ws : List ℕ) (lo hi l r : ℕ) (c : Walked) : Type 0 where
+  pub walked : WalkIs m us vs ws lo hi l r c
+
+-- j comes after i, and no present segment starts between them
+pub record Beyond (m : Layout) (ws : List ℕ) (i j : ℕ) : Type 0 where
+  pub up : i < j
+  pub none : Ringed ws m → (k : ℕ) → i < k → k < j → Starts ws m k → ⊥
