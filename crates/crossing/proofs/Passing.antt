@@ -9,6 +9,7 @@ use native.Mathlib.Nat.{div-eq-of-lt-le, add-mul}
 use native.Mathlib.Omega.{arith}
 use lib.Dec.{ltb}
 use lib.Ieee.{Float}
+use borrow.Author.Tests.{ltb-true}
 use Rattle.rule.specs.Grid.{Point, at}
 use Rattle.rule.specs.Segment.{same, meets}
 use Rattle.rule.specs.Preserve.{against}
@@ -63,31 +64,39 @@ unfolding against
 meets-not ps l r a b e =
     rw e (and-false (not (same (at ps a) (at ps l) || same (at ps a) (at ps r) || same (at ps b) (at ps l) || same (at ps b) (at ps r))))
 
-both : (c d : Bool) → (c && d) ≡ true → d ≡ true
-both true d e = e
-both false d e = absurd (false≢true e)
+three : (c d e : Bool) → (c && d && e) ≡ true → (d ≡ true) × (e ≡ true)
+three true true e h = (refl, h)
+three true false e h = absurd (false≢true h)
+three false d e h = absurd (false≢true h)
 
 module _ (b : Blocks) (m : Layout) (us vs fs : List Float) (ws : List ℕ) (l r : ℕ) where
   -- block k begins at point `start`, and the points below `from` are passed
   pub record Tested (from start k : ℕ) : Type 0 where
     pub low : start ≤ m .points
     pub near : start ≤ from
+    pub few : k ≤ start
     pub block : (start ≡ k * b .size) ⊎ (start ≡ m .points)
     pub none : (ps : List Point) → PlacedIn us vs m ps → Boxed b m ps fs ws → Ringed ws m → NoneAgainst m ps ws 0 from l r
 
   pub tested-start : Tested 0 0 0
-  tested-start = record { low = omega arith; near = omega arith; block = inl (omega arith); none = λ ps p bx g i low high. absurd (omega arith) }
+  tested-start = record {
+    low = omega arith;
+    near = omega arith;
+    few = omega arith;
+    block = inl (omega arith);
+    none = λ ps p bx g i low high. absurd (omega arith);
+  }
 
-  module _ {from start k end : ℕ} (t : Tested from start k) (n : EndOf start (b .size) (m .points) end) (hl : l < m .points) (hr : r < m .points) (low : k < b .number) where
+  module _ {from start k end : ℕ} (t : Tested from start k) (n : EndOf b k start (m .points) end) (hl : l < m .points) (hr : r < m .points) where
     -- the box of the block is apart from that of the new segment
-    apart-block : apart (boxAt fs b k) (spanned m us vs ofNone l r) ≡ true
+    apart-block : k < b .number → apart (boxAt fs b k) (spanned m us vs ofNone l r) ≡ true
         → (ps : List Point) → PlacedIn us vs m ps → Boxed b m ps fs ws → NoneAgainst m ps ws from end l r
-    apart-block e ps p bx i lo hi st =
+    apart-block low e ps p bx i lo hi st =
         meets-not ps l r i (nextAt ws m i)
         (apart-none (boxAt fs b k) (spanned m us vs ofNone l r) (bx .on k low) (s .on) (held .first) (held .second) (s .new .first) (s .new .second) e)
       where
         here : (start ≡ k * b .size) ⊎ (start ≡ m .points) → i / b .size ≡ k
-        here (inl w) = div-eq-of-lt-le (b .size) (omega (arith, t .near)) (omega (arith, n .few, add-mul k 1 (b .size)))
+        here (inl w) = div-eq-of-lt-le (b .size) (omega (arith, t .near)) (omega (arith, n .few low, add-mul k 1 (b .size)))
         here (inr w) = absurd (omega (arith, n .within, t .near))
 
         held : Spans ps i (nextAt ws m i) (boxAt fs b k)
@@ -108,12 +117,16 @@ module _ (b : Blocks) (m : Layout) (us vs fs : List Float) (ws : List ℕ) (l r 
     tested-more {none} {new} f h {lo} {j} e w = record {
       low = n .within;
       near = w .far;
+      few = omega (arith, t .few, n .up);
       block = next-start (t .block) (n .all);
-      none = λ ps p bx g i a z st. go ps p bx g i z st (decLt i from) (ltb from end && apart (boxAt fs b k) new) refl;
+      none = λ ps p bx g i a z st. go ps p bx g i z st (decLt i from) skips refl;
     }
       where
+        skips : Bool
+        skips = ltb from end && ltb k (b .number) && apart (boxAt fs b k) new
+
         go : (ps : List Point) → PlacedIn us vs m ps → Boxed b m ps fs ws → Ringed ws m → (i : ℕ) → i < j → Starts ws m i → Dec (i < from)
-            → (c : Bool) → (ltb from end && apart (boxAt fs b k) new) ≡ c → against ps l r i (nextAt ws m i) ≡ false
+            → (c : Bool) → skips ≡ c → against ps l r i (nextAt ws m i) ≡ false
         go ps p bx g i z st (yes q) c y = t .none ps p bx g i (omega arith) q st
         go ps p bx g i z st (no q) false y =
             let lo-is : lo ≡ from = e ∙ ap (λ (c : Bool). cond c end from) y in
@@ -126,22 +139,18 @@ module _ (b : Blocks) (m : Layout) (us vs fs : List Float) (ws : List ℕ) (l r 
             new-is : new ≡ spanned m us vs ofNone l r
             new-is = subst (λ (c : Bounds). new ≡ spanned m us vs c l r) f h
 
-            is-apart : apart (boxAt fs b k) (spanned m us vs ofNone l r) ≡ true
-            is-apart = subst (λ (c : Bounds). apart (boxAt fs b k) c ≡ true) new-is (both (ltb from end) (apart (boxAt fs b k) new) y)
+            both : (ltb k (b .number) ≡ true) × (apart (boxAt fs b k) new ≡ true)
+            both = three (ltb from end) (ltb k (b .number)) (apart (boxAt fs b k) new) y
 
             past : Dec (i < end) → against ps l r i (nextAt ws m i) ≡ false
-            past (yes v) = apart-block is-apart ps p bx i (omega (arith, q)) v st
+            past (yes v) =
+                apart-block (ltb-true k (b .number) (both .0)) (subst (λ (c : Bounds). apart (boxAt fs b k) c ≡ true) new-is (both .1)) ps p bx i (omega (arith, q)) v st
             past (no v) = w .none ps p g i (omega (arith, v, lo-is)) z st
 
-  pub tested-end : {from start k j : ℕ} → Tested from start k → Walks m us vs ws from (m .points) l r j → CrossesIs b m us vs fs ws l r false
-  tested-end {from} t w ps ends kss p bx rs = sym (rings-false ps l r ws m 0 ends kss rs (λ i h st. go i h st (decLt i from)))
-    where
-      g : Ringed ws m
-      g = record { ends = ends; kept = kss; rings = rs }
-
-      go : (i : ℕ) → i < m .points → Starts ws m i → Dec (i < from) → against ps l r i (nextAt ws m i) ≡ false
-      go i h st (yes z) = t .none ps p bx g i (omega arith) z st
-      go i h st (no z) = w .none ps p g i (omega (arith, z)) (omega (arith, w .far)) st
+  pub tested-end : {from start k : ℕ} → Tested from start k → m .points ≤ start → CrossesIs b m us vs fs ws l r false
+  tested-end t h ps ends kss p bx rs =
+      sym (rings-false ps l r ws m 0 ends kss rs
+      (λ i low st. t .none ps p bx (record { ends = ends; kept = kss; rings = rs }) i (omega arith) (omega (arith, t .near)) st))
 
 pub walk-as : {m : Layout} {us vs : List Float} {ws : List ℕ} {lo hi l r : ℕ} {c d : Walked} → c ≡ d → WalkDone m us vs ws lo hi l r c → WalkDone m us vs ws lo hi l r d
 walk-as {m} {us} {vs} {ws} {lo} {hi} {l} {r} e h = subst (WalkDone m us vs ws lo hi l r) e h

@@ -19,15 +19,16 @@ use Rattle.blocks.specs.Boxes.{boxAt}
 use Rattle.crossing.specs.declared.Walked.{Walked}
 use Rattle.crossing.specs.declared.Walked.the-variants.{Against, Passed}
 
--- of n points, a block that starts at `start` ends at e
-pub record EndOf (start size n e : ℕ) : Type 0 where
+-- of n points, block k, which starts at `start`, ends at e; what is past the last block is one without a box
+pub record EndOf (b : Blocks) (k start n e : ℕ) : Type 0 where
+  pub up : start < e
   pub within : e ≤ n
-  pub few : e ≤ start + size
-  pub all : (e ≡ start + size) ⊎ (e ≡ n)
+  pub few : k < b .number → e ≤ start + b .size
+  pub all : (e ≡ start + b .size) ⊎ (e ≡ n)
 
 -- where to walk on in block k, which ends at `end`, if the points below `from` are passed
 abbrev pub SkipIs : List Float → Blocks → ℕ → Bounds → (from end r : ℕ) → Type 0
-SkipIs fs b k new from end r = r ≡ cond (ltb from end && apart (boxAt fs b k) new) end from
+SkipIs fs b k new from end r = r ≡ cond (ltb from end && ltb k (b .number) && apart (boxAt fs b k) new) end from
 
 -- the links are those of rings, each by where it ends and what is kept of it
 pub record Ringed (ws : List ℕ) (m : Layout) : Type 0 where

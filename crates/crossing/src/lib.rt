@@ -12,7 +12,7 @@ use bounds::Bounds;
 use layout::Layout;
 
 // geo's `tree_intersect`: the new segment from l to r crosses a present one of any ring, one that shares a point with it and has no end at either of its ends.
-// Points past the last block are walked plainly.
+// Block after block is walked or skipped; the points past the last one are walked as a block without a box.
 pub fn crosses(
     x: &[f64],
     y: &[f64],
@@ -30,8 +30,8 @@ pub fn crosses(
     let mut from = 0;
     let mut start = 0;
     let mut k = 0;
-    while k < b.number {
-        let end = end_of(start, b.size, m.points);
+    while start < m.points {
+        let end = end_of(b, k, start, m.points);
         let lo = skip(floats, b, k, new, from, end);
         let got = walk(x, y, words, m, lo, end, l, r);
         match got {
@@ -45,30 +45,32 @@ pub fn crosses(
             }
         }
     }
-    let rest = walk(x, y, words, m, from, m.points, l, r);
-    match rest {
-        Walked::Against => true,
-        Walked::Passed(j) => false,
-    }
+    false
 }
 
-// Where the block from `start` on ends.
-fn end_of(start: usize, size: usize, points: usize) -> usize
-    requires { ⌜ start ≤ points ⌝ }
-    ensures { λ r. ⌜ EndOf start size points r ⌝ }
+// Where block k, which starts at `start`, ends.
+fn end_of(b: Blocks, k: usize, start: usize, points: usize) -> usize
+    requires { ⌜ (0 < b .size) × (start < points) ⌝ }
+    ensures { λ r. ⌜ EndOf b k start points r ⌝ }
 {
-    if points - start <= size {
+    if b.number <= k {
         return points;
     }
-    start + size
+    if points - start <= b.size {
+        return points;
+    }
+    start + b.size
 }
 
 // Where to walk on in block k, which ends at `end`, if the points below `from` are passed: at its end, if its box is apart from the new segment's.
 fn skip(floats: &[f64], b: Blocks, k: usize, new: Bounds, from: usize, end: usize) -> usize
-    requires { ⌜ HasBoxes b (now floats) × (k < b .number) ⌝ }
+    requires { ⌜ HasBoxes b (now floats) ⌝ }
     ensures { λ r. ⌜ SkipIs (now (floats .entry)) b k new from end r ⌝ }
 {
     if end <= from {
+        return from;
+    }
+    if b.number <= k {
         return from;
     }
     let old = blocks::bounds_of(floats, b, k);

@@ -1,23 +1,23 @@
 //! How long the calls take, beside the given text of crate geo, on the same lines in one run.
 //!
-//!     cargo bench                 # in rust/; under a minute
+//!     cargo bench                 # in rust/; some two minutes
 //!     cargo bench -- --quick      # a look, with less care
 //!
 //! 'ours' is the native archive on lent memory, with its tests of the input and the zeroing of its scratch. 'tied' is the given text
 //! with the tie order, which gives the same list; 'given' is the given text as it is. Both allocate as they go. Each number is the
 //! median of many calls, the three taken by turns. For the preserving rule a plain list stands in for the crate's R* tree.
 
-use oracle::random::Random;
-use oracle::{Coord, LineString, MultiPoint, Point};
+mod lines;
+
+use lines::{lines, Line, ALL, SEED};
 use pylonfrith::sizes::{POINTS, SCRATCH_FLOATS_PER_POINT, SCRATCH_WORDS_PER_POINT};
 use pylonfrith::{lent, Slot, Step, WorkArea};
 use std::process::ExitCode;
 use std::time::{Duration, Instant};
 
-const SEED: u64 = 1;
 const COUNTS: [usize; 3] = [256, 1_024, POINTS];
-/// A tolerance that no area is above.
-const ALL: f64 = 1e18;
+/// The growth table begins with so many points, and doubles them up to the limit.
+const LEAST: usize = 256;
 
 fn main() -> ExitCode {
     let mut budget = Duration::from_millis(400);
@@ -34,7 +34,7 @@ fn main() -> ExitCode {
     println!("Seed {SEED}. Microseconds a call, medians; a ratio below 1 is in our favour.\n");
     println!("| call | line | points | kept | given | tied | ours | ours/tied | ours/given |");
     println!("|---|---|---:|---:|---:|---:|---:|---:|---:|");
-    let lines = lines();
+    let lines = lines(&COUNTS);
     for bench in [index_rule, preserving_rule, slot_steps] {
         for line in &lines {
             bench(line, line.half(), budget);
@@ -44,101 +44,9 @@ fn main() -> ExitCode {
     for line in &lines {
         repeats(line, budget);
     }
+    growth(budget);
     latency(&lines);
     ExitCode::SUCCESS
-}
-
-// ---- lines ----
-
-/// A line in the forms that both sides take.
-struct Line {
-    kind: &'static str,
-    x: Vec<f64>,
-    y: Vec<f64>,
-    string: LineString<f64>,
-    points: MultiPoint<f64>,
-}
-
-impl Line {
-    fn new(kind: &'static str, places: Vec<(i64, i64)>) -> Line {
-        let coords: Vec<Coord<f64>> = places
-            .iter()
-            .map(|&(x, y)| Coord {
-                x: x as f64,
-                y: y as f64,
-            })
-            .collect();
-        Line {
-            kind,
-            x: coords.iter().map(|coord| coord.x).collect(),
-            y: coords.iter().map(|coord| coord.y).collect(),
-            points: MultiPoint(coords.iter().copied().map(Point).collect()),
-            string: LineString(coords),
-        }
-    }
-
-    fn len(&self) -> usize {
-        self.x.len()
-    }
-
-    /// The least tolerance at which the index rule removes half of the points.
-    fn half(&self) -> f64 {
-        let mut work = WorkArea::new();
-        opened(&mut work, self, ALL);
-        let mut greatest = 0.0_f64;
-        for _ in 0..self.len() / 2 {
-            if let Ok(Step::Removed { area, .. }) = work.step(Slot(0)) {
-                greatest = greatest.max(area);
-            }
-        }
-        greatest
-    }
-}
-
-fn lines() -> Vec<Line> {
-    let mut random = Random::new(SEED);
-    let mut lines = Vec::new();
-    for count in COUNTS {
-        lines.push(Line::new("walk", walk(count, &mut random)));
-        lines.push(Line::new("coast", coast(count, &mut random)));
-        lines.push(Line::new("random", anywhere(count, &mut random)));
-    }
-    lines
-}
-
-fn walk(count: usize, random: &mut Random) -> Vec<(i64, i64)> {
-    let mut at = (0, 0);
-    let mut places = Vec::new();
-    for _ in 0..count {
-        at.0 += random.from_to(-100, 100);
-        at.1 += random.from_to(-100, 100);
-        places.push(at);
-    }
-    places
-}
-
-/// A shore: the middle of each stretch is moved by up to a quarter of its length, again and again.
-fn coast(count: usize, random: &mut Random) -> Vec<(i64, i64)> {
-    let mut places = vec![(-4_000_000, 0), (4_000_000, 0)];
-    while places.len() < count {
-        let mut finer = Vec::new();
-        for pair in places.windows(2) {
-            let (from, to): ((i64, i64), (i64, i64)) = (pair[0], pair[1]);
-            let reach = ((from.0 - to.0).abs() + (from.1 - to.1).abs()) / 4 + 1;
-            let mut moved = |a: i64, b: i64| (a + b) / 2 + random.from_to(-reach, reach);
-            finer.push(from);
-            finer.push((moved(from.0, to.0), moved(from.1, to.1)));
-        }
-        finer.push((4_000_000, 0));
-        places = finer;
-    }
-    places.truncate(count);
-    places
-}
-
-fn anywhere(count: usize, random: &mut Random) -> Vec<(i64, i64)> {
-    let mut draw = || random.from_to(-1_000_000, 1_000_000);
-    (0..count).map(|_| (draw(), draw())).collect()
 }
 
 // ---- whole calls ----
@@ -237,21 +145,25 @@ fn index_rule(line: &Line, tolerance: f64, budget: Duration) {
 
 fn preserving_rule(line: &Line, tolerance: f64, budget: Duration) {
     let mut memory = Memory::new(line);
-    let mut ours = || {
-        let Memory { out, floats, words } = &mut memory;
-        let count = lent::simplify_vw_preserve(&line.x, &line.y, tolerance, out, floats, words);
-        count.expect("accepted") as usize
-    };
+    let mut ours = || preserved(line, tolerance, &mut memory);
     let mut given = || {
         use oracle::simplify_vw::SimplifyVwPreserve;
         line.string.simplify_vw_preserve(tolerance).0.len()
     };
-    let mut tied = || {
-        use oracle::simplify_vw_tied::SimplifyVwPreserve;
-        line.string.simplify_vw_preserve(tolerance).0.len()
-    };
+    let mut tied = || preserved_tied(line, tolerance);
     let mut sides: [Side; 3] = [&mut given, &mut tied, &mut ours];
     row_of_three("preserving rule", line, &mut sides, budget);
+}
+
+fn preserved(line: &Line, tolerance: f64, memory: &mut Memory) -> usize {
+    let Memory { out, floats, words } = memory;
+    let count = lent::simplify_vw_preserve(&line.x, &line.y, tolerance, out, floats, words);
+    count.expect("accepted") as usize
+}
+
+fn preserved_tied(line: &Line, tolerance: f64) -> usize {
+    use oracle::simplify_vw_tied::SimplifyVwPreserve;
+    line.string.simplify_vw_preserve(tolerance).0.len()
 }
 
 /// A slot opened and stepped to the end, beside the whole call of the given text.
@@ -313,6 +225,50 @@ fn repeats(line: &Line, budget: Duration) {
             count.expect("accepted") as usize
         },
     );
+}
+
+// ---- growth ----
+
+/// The preserving rule with everything removed, at twice as many points again and again: what a call takes, and how many times as
+/// long as at half as many points.
+fn growth(budget: Duration) {
+    println!("\nThe preserving rule with everything removed, as a line grows; 'times' is to half as many points.\n");
+    println!("| line | points | tied | ours | ours/tied | tied, times | ours, times |");
+    println!("|---|---:|---:|---:|---:|---:|---:|");
+    let counts: Vec<usize> = std::iter::successors(Some(LEAST), |count| Some(2 * count))
+        .take_while(|&count| count <= POINTS)
+        .collect();
+    let lines = lines(&counts);
+    let kinds = lines.len() / counts.len();
+    for kind in 0..kinds {
+        let mut before: Option<(f64, f64)> = None;
+        for line in lines.iter().skip(kind).step_by(kinds) {
+            let now = grown(line, budget);
+            let times = |now: f64, before: Option<f64>| {
+                before.map_or(String::new(), |before| format!("{:.1}", now / before))
+            };
+            println!(
+                "| {} | {} | {:.1} | {:.1} | {:.2} | {} | {} |",
+                line.kind,
+                line.len(),
+                now.0,
+                now.1,
+                now.1 / now.0,
+                times(now.0, before.map(|times| times.0)),
+                times(now.1, before.map(|times| times.1)),
+            );
+            before = Some(now);
+        }
+    }
+}
+
+/// Medians of 'tied' and of ours.
+fn grown(line: &Line, budget: Duration) -> (f64, f64) {
+    let mut memory = Memory::new(line);
+    let mut tied = || preserved_tied(line, ALL);
+    let mut ours = || preserved(line, ALL, &mut memory);
+    let (times, _) = medians(&mut [&mut tied, &mut ours], budget);
+    (times[0], times[1])
 }
 
 // ---- single steps ----
