@@ -15,7 +15,7 @@ use Rattle.links.proofs.Memory.{same-from, starts-same, unlinked-starts}
 use Rattle.bounds.specs.declared.Bounds.{Bounds}
 use Rattle.bounds.specs.Bounds.{SidesOn}
 use Rattle.blocks.specs.declared.Blocks.{Blocks}
-use Rattle.blocks.specs.Boxes.{boxAt, HasBoxes, covered, Spans, Boxed}
+use Rattle.blocks.specs.Boxes.{boxFloats, boxAt, HasBoxes, covered, Spans, Boxed}
 use Rattle.blocks.proofs.Stored.{same-box}
 use Rattle.blocks.proofs.Made.{Grown, spans-grown, covered-grown}
 
@@ -34,7 +34,7 @@ boxed-same {b} {m} {ps} {fs} {fs′} {ws} {ws′} f w x = record {
     same = same-from w
 
     box : (k : ℕ) → boxAt fs′ b k ≡ boxAt fs b k
-    box k = same-box fs fs′ (b .at + 4 * k) (λ j p q. f j (omega arith))
+    box k = same-box fs fs′ (b .at + boxFloats * k) (λ j p q. f j (omega arith))
 
 -- s's point is taken out, and the box of its left neighbour's block is widened by the new segment
 module _ (b : Blocks) (m : Layout) (us vs : List Float) (ps : List Point) (fs : List Float) (ws : List ℕ) (s : VScore) (placed : PlacedIn us vs m ps)

@@ -2,3 +2,4 @@
 pub mod Stored
 pub mod Made
 pub mod Kept
+pub mod Row

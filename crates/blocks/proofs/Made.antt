@@ -17,7 +17,7 @@ use Rattle.bounds.specs.declared.Bounds.{Bounds}
 use Rattle.bounds.specs.Bounds.{ofNone, SidesOn, Holds, Grows}
 use Rattle.bounds.proofs.Within.{none-on, widens}
 use Rattle.blocks.specs.declared.Blocks.{Blocks}
-use Rattle.blocks.specs.Boxes.{boxAt, HasBoxes, stored, spanned, covered, coveredFrom, cleared, coveredTo, setUp, Spans, BoxesOn, Boxed}
+use Rattle.blocks.specs.Boxes.{boxFloats, boxAt, HasBoxes, stored, spanned, covered, coveredFrom, cleared, coveredTo, setUp, Spans, BoxesOn, Boxed}
 use Rattle.blocks.proofs.Stored.{OnlyBoxes, stored-length, only-self, only-then, only-box, own-box, other-box, has-as}
 
 -- ---- the bounds of two points more
@@ -59,14 +59,14 @@ module _ (b : Blocks) (m : Layout) (us vs : List Float) (i j : ℕ) (fs : List F
   wide = spanned m us vs (boxAt fs b k) i j
 
   abbrev now : List Float
-  now = stored fs (b .at + 4 * k) wide
+  now = stored fs (b .at + boxFloats * k) wide
 
   pub covered-length : length (covered b m us vs i j fs) ≡ length fs
   unfolding covered
   covered-length = go (ltb k (b .number))
     where
       go : (t : Bool) → length (cond t now fs) ≡ length fs
-      go true = stored-length fs (b .at + 4 * k) wide
+      go true = stored-length fs (b .at + boxFloats * k) wide
       go false = refl
 
   pub covered-only : OnlyBoxes b fs (covered b m us vs i j fs)
@@ -173,7 +173,7 @@ module _ (b : Blocks) (m : Layout) (us vs : List Float) (ws : List ℕ) where
 cleared-length : (b : Blocks) (n : ℕ) (fs : List Float) → length (cleared b n fs) ≡ length fs
 unfolding cleared
 cleared-length b zero fs = refl
-cleared-length b (suc n) fs = stored-length (cleared b n fs) (b .at + 4 * n) ofNone ∙ cleared-length b n fs
+cleared-length b (suc n) fs = stored-length (cleared b n fs) (b .at + boxFloats * n) ofNone ∙ cleared-length b n fs
 
 cleared-only : (b : Blocks) (n : ℕ) (fs : List Float) → n ≤ b .number → OnlyBoxes b fs (cleared b n fs)
 unfolding cleared
@@ -188,9 +188,9 @@ cleared-on b (suc n) fs has h k l = go (ℕ-discrete k n) (cleared-on b n fs has
     was : List Float
     was = cleared b n fs
 
-    go : Dec (k ≡ n) → (k < n → SidesOn (boxAt was b k)) → SidesOn (boxAt (stored was (b .at + 4 * n) ofNone) b k)
+    go : Dec (k ≡ n) → (k < n → SidesOn (boxAt was b k)) → SidesOn (boxAt (stored was (b .at + boxFloats * n) ofNone) b k)
     go (yes z) rec =
-        subst (λ (x : ℕ). SidesOn (boxAt (stored was (b .at + 4 * n) ofNone) b x)) (sym z)
+        subst (λ (x : ℕ). SidesOn (boxAt (stored was (b .at + boxFloats * n) ofNone) b x)) (sym z)
         (subst SidesOn (sym (own-box b was n ofNone (omega arith) (has-as (cleared-length b n fs) has))) none-on)
     go (no ne) rec = subst SidesOn (sym (other-box b was n ofNone (omega arith) k ne)) (rec (omega (arith, ne)))
 

@@ -9,7 +9,7 @@ use lib.Ieee.{Float, nan}
 use Rattle.layout.specs.declared.Layout.{Layout}
 use Rattle.bounds.specs.declared.Bounds.{Bounds}
 use Rattle.blocks.specs.declared.Blocks.{Blocks}
-use Rattle.blocks.specs.Boxes.{boxFrom, boxAt, boxesEnd, behindEnd, stored, HasBoxes, Free, BehindHeap}
+use Rattle.blocks.specs.Boxes.{boxFloats, boxFrom, boxAt, boxesEnd, behindEnd, stored, HasBoxes, Free, BehindHeap}
 
 module _ (fs : List Float) (o : ℕ) (c : Bounds) where
   abbrev first : List Float
@@ -29,7 +29,7 @@ module _ (fs : List Float) (o : ℕ) (c : Bounds) where
       getD-set-other third (o + 3) j (c .north) nan s ∙ getD-set-other second (o + 2) j (c .south) nan r ∙ getD-set-other first (o + 1) j (c .east) nan q
       ∙ getD-set-other fs o j (c .west) nan p
 
-  module _ (room : o + 4 ≤ length fs) where
+  module _ (room : o + boxFloats ≤ length fs) where
     west : getD (stored fs o c) o nan ≡ c .west
     west =
         getD-set-other third (o + 3) o (c .north) nan (λ e. omega arith) ∙ getD-set-other second (o + 2) o (c .south) nan (λ e. omega arith)
@@ -51,7 +51,7 @@ module _ (fs : List Float) (o : ℕ) (c : Bounds) where
     stored-box i = record { west = west i; east = east i; south = south i; north = north i }
 
 -- boxes are the same where the floats are
-pub same-box : (fs fs′ : List Float) (o : ℕ) → ((j : ℕ) → o ≤ j → j < o + 4 → getD fs′ j nan ≡ getD fs j nan) → boxFrom fs′ o ≡ boxFrom fs o
+pub same-box : (fs fs′ : List Float) (o : ℕ) → ((j : ℕ) → o ≤ j → j < o + boxFloats → getD fs′ j nan ≡ getD fs j nan) → boxFrom fs′ o ≡ boxFrom fs o
 same-box fs fs′ o e i = record {
   west = e o (omega arith) (omega arith) i;
   east = e (o + 1) (omega arith) (omega arith) i;
@@ -73,20 +73,20 @@ only-then f g = record { before = λ i h. g .before i h ∙ f .before i h; after
 -- the box of block k stored
 module _ (b : Blocks) (fs : List Float) (k : ℕ) (c : Bounds) (low : k < b .number) where
   abbrev now : List Float
-  now = stored fs (b .at + 4 * k) c
+  now = stored fs (b .at + boxFloats * k) c
 
   pub own-box : HasBoxes b fs → boxAt now b k ≡ c
-  own-box has = stored-box fs (b .at + 4 * k) c (omega (arith, has .room))
+  own-box has = stored-box fs (b .at + boxFloats * k) c (omega (arith, has .room))
 
   pub other-box : (n : ℕ) → (n ≡ k → ⊥) → boxAt now b n ≡ boxAt fs b n
   other-box n ne =
-      same-box fs now (b .at + 4 * n)
-      (λ j p q. stored-other fs (b .at + 4 * k) c j (λ e. ne (omega arith)) (λ e. ne (omega arith)) (λ e. ne (omega arith)) (λ e. ne (omega arith)))
+      same-box fs now (b .at + boxFloats * n)
+      (λ j p q. stored-other fs (b .at + boxFloats * k) c j (λ e. ne (omega arith)) (λ e. ne (omega arith)) (λ e. ne (omega arith)) (λ e. ne (omega arith)))
 
   pub only-box : OnlyBoxes b fs now
   only-box = record {
-    before = λ i h. stored-other fs (b .at + 4 * k) c i (λ e. omega arith) (λ e. omega arith) (λ e. omega arith) (λ e. omega arith);
-    after = λ i h. stored-other fs (b .at + 4 * k) c i (λ e. omega arith) (λ e. omega arith) (λ e. omega arith) (λ e. omega arith);
+    before = λ i h. stored-other fs (b .at + boxFloats * k) c i (λ e. omega arith) (λ e. omega arith) (λ e. omega arith) (λ e. omega arith);
+    after = λ i h. stored-other fs (b .at + boxFloats * k) c i (λ e. omega arith) (λ e. omega arith) (λ e. omega arith) (λ e. omega arith);
   }
 
 -- ---- memory as long has the same boxes

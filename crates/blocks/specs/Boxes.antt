@@ -1,4 +1,4 @@
--- The boxes of blocks of points in lent memory: four floats each. Assumes nothing.
+-- The boxes of blocks of points in lent memory. Assumes nothing.
 use mathlib.Core.Path.{_≡_}
 use mathlib.Core.Bool.{cond}
 use mathlib.Core.List.{List}
@@ -16,16 +16,19 @@ use Rattle.blocks.specs.declared.Blocks.{Blocks}
 
 -- ---- where they stand
 
+abbrev pub boxFloats : ℕ
+boxFloats = 4
+
 abbrev pub boxFrom : List Float → ℕ → Bounds
 boxFrom fs o = record { west = getD fs o nan; east = getD fs (o + 1) nan; south = getD fs (o + 2) nan; north = getD fs (o + 3) nan }
 
 -- the box of block k
 abbrev pub boxAt : List Float → Blocks → ℕ → Bounds
-boxAt fs b k = boxFrom fs (b .at + 4 * k)
+boxAt fs b k = boxFrom fs (b .at + boxFloats * k)
 
 -- where the boxes end
 abbrev pub boxesEnd : Blocks → ℕ
-boxesEnd b = b .at + 4 * b .number
+boxesEnd b = b .at + boxFloats * b .number
 
 -- the memory has every box, and a block is not empty
 pub record HasBoxes (b : Blocks) (fs : List Float) : Type 0 where
@@ -45,7 +48,7 @@ behindEnd m = m .capacity + m .points
 pub record BehindHeap (m : Layout) (b : Blocks) : Type 0 where
   pub start : b .at ≡ m .capacity
   pub some : 0 < b .size
-  pub few : 4 * b .number ≤ m .points
+  pub few : boxFloats * b .number ≤ m .points
 
 -- ---- what the calls write
 
@@ -60,7 +63,7 @@ spanned m us vs c i j = widened (widened c (from us (m .x) i) (from vs (m .y) i)
 unfoldable pub covered : Blocks → Layout → (us vs : List Float) → (i j : ℕ) → List Float → List Float
 covered b m us vs i j fs =
     let k = i / b .size in
-    cond (ltb k (b .number)) (stored fs (b .at + 4 * k) (spanned m us vs (boxAt fs b k) i j)) fs
+    cond (ltb k (b .number)) (stored fs (b .at + boxFloats * k) (spanned m us vs (boxAt fs b k) i j)) fs
 
 -- by the segment from i to its next point, if it has one
 unfoldable pub coveredFrom : Blocks → Layout → (us vs : List Float) (ws : List ℕ) → ℕ → List Float → List Float
@@ -71,7 +74,7 @@ coveredFrom b m us vs ws i fs = cond (ltb (nextAt ws m i) (m .points)) (covered 
 unfoldable pub cleared : Blocks → ℕ → List Float → List Float
 unfolding ofNone
 cleared b zero fs = fs
-cleared b (suc n) fs = stored (cleared b n fs) (b .at + 4 * n) ofNone
+cleared b (suc n) fs = stored (cleared b n fs) (b .at + boxFloats * n) ofNone
 
 -- widened by the segments that start at the first n points
 unfoldable pub coveredTo : Blocks → Layout → (us vs : List Float) (ws : List ℕ) → ℕ → List Float → List Float

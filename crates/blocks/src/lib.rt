@@ -6,7 +6,7 @@ ghost use lib.ListN.{length};
 ghost use Rattle.rule.specs.Sizes.{mostPoints};
 ghost use Rattle.layout.specs.Points.{HasPoints};
 ghost use Rattle.links.specs.Words.{HasLinks};
-ghost use Rattle.blocks.specs.Boxes.{boxFrom, boxAt, stored, spanned, covered, coveredFrom, cleared, setUp, BehindHeap, HasBoxes};
+ghost use Rattle.blocks.specs.Boxes.{boxFloats, boxFrom, boxAt, stored, spanned, covered, coveredFrom, cleared, setUp, BehindHeap, HasBoxes};
 use bounds::Bounds;
 use layout::Layout;
 
@@ -129,7 +129,7 @@ pub fn bounds_of(floats: &[f64], b: Blocks, k: usize) -> Bounds
 }
 
 fn load(floats: &[f64], at: usize) -> Bounds
-    requires { ⌜ at + 4 ≤ length (now floats) ⌝ }
+    requires { ⌜ at + boxFloats ≤ length (now floats) ⌝ }
     ensures { λ r. ⌜ r ≡ boxFrom (now (floats .entry)) at ⌝ }
 {
     Bounds {
@@ -141,7 +141,7 @@ fn load(floats: &[f64], at: usize) -> Bounds
 }
 
 fn store(floats: &mut [f64], at: usize, c: Bounds)
-    requires { ⌜ at + 4 ≤ length (now floats) ⌝ }
+    requires { ⌜ at + boxFloats ≤ length (now floats) ⌝ }
     ensures { λ _. ⌜ now (floats .exit) ≡ stored (now (floats .entry)) at c ⌝ }
 {
     floats[at] = c.west;

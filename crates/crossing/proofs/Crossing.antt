@@ -12,12 +12,12 @@ use Rattle.rule.specs.Preserve.{against, againstRing, crosses}
 use Rattle.laws.proofs.Kept.{Up}
 use Rattle.layout.specs.declared.Layout.{Layout}
 use Rattle.layout.specs.Points.{PlacedIn}
-use Rattle.links.specs.Words.{nextAt, markAt, Starts}
+use Rattle.links.specs.Words.{nextAt, Starts}
 use Rattle.links.specs.Ring.{In, Then, Rings}
 use Rattle.links.proofs.Neighbours.{in-none, in-cons, then-first, then-further, then-back, next-unique}
 use Rattle.links.proofs.Ring.{ring-in, in-ring, ring-below, ring-up, next-is, is-next}
 use Rattle.segment.specs.Against.{opposed}
-use Rattle.crossing.specs.Crossing.{AgainstAt, StandsIs}
+use Rattle.crossing.specs.Crossing.{LeadsTo, StandsIs}
 use Rattle.crossing.specs.Passing.{Crosses}
 
 -- ---- one ring
@@ -89,26 +89,21 @@ module _ (ps : List Point) (l r : ℕ) where
 
 -- ---- one point
 
-module _ {m : Layout} {us vs : List Float} {ws : List ℕ} {i l r : ℕ} where
-  -- no present segment starts at it
-  pub none-starts : (Starts ws m i → ⊥) → StandsIs m us vs ws i l r false
-  none-starts h = record { starts = λ e. absurd (false≢true e); stands = λ s. absurd (h s) }
-
-  -- one starts, and ends at j
-  pub one-starts : {j : ℕ} {c : Bool} → markAt ws m i ≡ 0 → j ≡ nextAt ws m i → j < m .points → AgainstAt m us vs i j l r c → StandsIs m us vs ws i l r c
-  one-starts {j} {c} k e h f = record {
-    starts = λ z. record { kept = k; ahead = omega arith };
-    stands = λ s. subst (λ (o : ℕ). AgainstAt m us vs i o l r c) e f;
-  }
-
-module _ (m : Layout) (us vs : List Float) (ws : List ℕ) (l r : ℕ) (hl : l < m .points) (hr : r < m .points) {i : ℕ} (hi : i < m .points) {c : Bool}
-    (h : StandsIs m us vs ws i l r c) where
+module _ (m : Layout) (us vs : List Float) (ws : List ℕ) (l r : ℕ) (hl : l < m .points) (hr : r < m .points) {i j : ℕ} (hi : i < m .points) {c : Bool}
+    (e : LeadsTo ws m i j) (h : StandsIs m us vs i j l r c) where
   pub stands-as : (ps : List Point) → PlacedIn us vs m ps → Starts ws m i → against ps l r i (nextAt ws m i) ≡ c
   unfolding against
-  stands-as ps p s =
-      let j = nextAt ws m i in
-      (λ k. opposed (p .is i hi k) (p .is j (s .ahead) k) (p .is l hl k) (p .is r hr k))
-      ∙ sym (h .stands s (p .on i hi) (p .on j (s .ahead)) (p .on l hl) (p .on r hr))
+  stands-as ps p s = go (decLt j (m .points))
+    where
+      go : Dec (j < m .points) → against ps l r i (nextAt ws m i) ≡ c
+      go (no w) = absurd (e .none (omega (arith, w)) s)
+      go (yes w) =
+          ap (against ps l r i) (sym (e .some w .1)) ∙ (λ k. opposed (p .is i hi k) (p .is j w k) (p .is l hl k) (p .is r hr k))
+          ∙ sym (h .some w (p .on i hi) (p .on j w) (p .on l hl) (p .on r hr))
 
   pub stands-crosses : c ≡ true → Crosses m us vs ws l r
-  stands-crosses e ps ends kss p rs = rings-true ps l r ws m 0 ends kss rs i (omega arith) hi (h .starts e) (stands-as ps p (h .starts e) ∙ e)
+  stands-crosses z ps ends kss p rs = go (decLt j (m .points))
+    where
+      go : Dec (j < m .points) → crosses ps l r kss ≡ true
+      go (no w) = absurd (false≢true (sym (h .none (omega (arith, w))) ∙ z))
+      go (yes w) = let s = e .some w .0 in rings-true ps l r ws m 0 ends kss rs i (omega arith) hi s (stands-as ps p s ∙ z)

@@ -15,7 +15,7 @@ use Rattle.rule.specs.Segment.{same, meets}
 use Rattle.rule.specs.Preserve.{against}
 use Rattle.layout.specs.declared.Layout.{Layout}
 use Rattle.layout.specs.Points.{PlacedIn}
-use Rattle.links.specs.Words.{nextAt, markAt, Starts}
+use Rattle.links.specs.Words.{nextAt, Starts}
 use Rattle.links.proofs.Rings.{none-between}
 use Rattle.bounds.specs.declared.Bounds.{Bounds}
 use Rattle.bounds.specs.Bounds.{ofNone, apart}
@@ -24,18 +24,11 @@ use Rattle.blocks.specs.declared.Blocks.{Blocks}
 use Rattle.blocks.specs.Boxes.{boxAt, spanned, Spans, Boxed}
 use Rattle.blocks.proofs.Made.{Spanning, spanned-both}
 use Rattle.crossing.specs.declared.Walked.{Walked}
-use Rattle.crossing.specs.Crossing.{StandsIs, CrossesIs}
-use Rattle.crossing.specs.Passing.{EndOf, SkipIs, Ringed, NoneAgainst, Walks, WalkDone, Beyond}
+use Rattle.crossing.specs.Crossing.{LeadsTo, StandsIs, CrossesIs}
+use Rattle.crossing.specs.Passing.{EndOf, SkipIs, BeyondIs, Ringed, NoneAgainst, Walks, WalkDone}
 use Rattle.crossing.proofs.Crossing.{rings-false, stands-as}
 
 -- ---- from a point to the next
-
-pub beyond-next : (ws : List ℕ) (m : Layout) {i j : ℕ} → i < m .points → markAt ws m i ≡ 0 → j ≡ nextAt ws m i → i < j → j < m .points → Beyond m ws i j
-beyond-next ws m {i} {j} hi k e up hj = record {
-  up = up;
-  none = λ g n a b s.
-      none-between ws m 0 (g .ends) (g .kept) (g .rings) i (omega arith) hi (record { kept = k; ahead = omega (arith, e) }) n a (omega (arith, e)) (s .kept);
-}
 
 -- no present segment that starts from point lo to point i is against the one from l to r
 pub record Walking (m : Layout) (us vs : List Float) (ws : List ℕ) (lo l r i : ℕ) : Type 0 where
@@ -45,17 +38,24 @@ module _ (m : Layout) (us vs : List Float) (ws : List ℕ) (lo l r : ℕ) where
   pub walking-start : Walking m us vs ws lo l r lo
   walking-start = record { none = λ ps p g i low high. absurd (omega arith) }
 
-  pub walking-more : l < m .points → r < m .points → {i : ℕ} → i < m .points → {c : Bool} → StandsIs m us vs ws i l r c → c ≡ false
-      → {j : ℕ} → Beyond m ws i j → Walking m us vs ws lo l r i → Walking m us vs ws lo l r j
-  walking-more hl hr {i} hi {c} h e {j} b s = record { none = λ ps p g k low high st. go ps p g k low high st (decLt k i) (decLt i k) }
-    where
-      go : (ps : List Point) → PlacedIn us vs m ps → Ringed ws m → (k : ℕ) → lo ≤ k → k < j → Starts ws m k → Dec (k < i) → Dec (i < k)
-          → against ps l r k (nextAt ws m k) ≡ false
-      go ps p g k low high st (yes w) z = s .none ps p g k low w st
-      go ps p g k low high st (no w) (yes z) = absurd (b .none g k z high st)
-      go ps p g k low high st (no w) (no z) =
-          let y : i ≡ k = omega (arith, w, z) in
-          subst (λ (n : ℕ). Starts ws m n → against ps l r n (nextAt ws m n) ≡ false) y (λ v. stands-as m us vs ws l r hl hr hi h ps p v ∙ e) st
+  module _ (hl : l < m .points) (hr : r < m .points) {i j : ℕ} (hi : i < m .points) {c : Bool} (e : LeadsTo ws m i j) (h : StandsIs m us vs i j l r c) where
+    -- none starts between i and the next point n
+    between : {n : ℕ} → (n ≡ i + 1) ⊎ ((n ≡ j) × (j < m .points)) → Ringed ws m → (k : ℕ) → i < k → k < n → Starts ws m k → ⊥
+    between (inl z) g k low high st = omega (arith, z)
+    between (inr z) g k low high st =
+        let s = e .some (z .1) in
+        none-between ws m 0 (g .ends) (g .kept) (g .rings) i (omega arith) hi (s .0) k low (omega (arith, z .0, s .1)) (st .kept)
+
+    pub walking-more : c ≡ false → Walking m us vs ws lo l r i → {n : ℕ} → BeyondIs i j (m .points) n → Walking m us vs ws lo l r n
+    walking-more f s {n} b = record { none = λ ps p g k low high st. go ps p g k low high st (decLt k i) (decLt i k) }
+      where
+        go : (ps : List Point) → PlacedIn us vs m ps → Ringed ws m → (k : ℕ) → lo ≤ k → k < n → Starts ws m k → Dec (k < i) → Dec (i < k)
+            → against ps l r k (nextAt ws m k) ≡ false
+        go ps p g k low high st (yes w) z = s .none ps p g k low w st
+        go ps p g k low high st (no w) (yes z) = absurd (between (b .1) g k z high st)
+        go ps p g k low high st (no w) (no z) =
+            let y : i ≡ k = omega (arith, w, z) in
+            subst (λ (n : ℕ). Starts ws m n → against ps l r n (nextAt ws m n) ≡ false) y (λ v. stands-as m us vs ws l r hl hr hi e h ps p v ∙ f) st
 
 -- ---- block after block
 
@@ -129,12 +129,12 @@ module _ (b : Blocks) (m : Layout) (us vs fs : List Float) (ws : List ℕ) (l r 
             → (c : Bool) → skips ≡ c → against ps l r i (nextAt ws m i) ≡ false
         go ps p bx g i z st (yes q) c y = t .none ps p bx g i (omega arith) q st
         go ps p bx g i z st (no q) false y =
-            let lo-is : lo ≡ from = e ∙ ap (λ (c : Bool). cond c end from) y in
+            let lo-is : lo ≡ from = e .to ∙ ap (λ (c : Bool). cond c end from) y in
             w .none ps p g i (omega (arith, q, lo-is)) z st
         go ps p bx g i z st (no q) true y = past (decLt i end)
           where
             lo-is : lo ≡ end
-            lo-is = e ∙ ap (λ (c : Bool). cond c end from) y
+            lo-is = e .to ∙ ap (λ (c : Bool). cond c end from) y
 
             new-is : new ≡ spanned m us vs ofNone l r
             new-is = subst (λ (c : Bounds). new ≡ spanned m us vs c l r) f h

@@ -1,8 +1,8 @@
 -- A new segment and the present ones, read from the links of all rings. Assumes nothing.
 use mathlib.Core.Path.{_≡_}
-use mathlib.Core.Bool.{Bool, true}
+use mathlib.Core.Bool.{Bool, false}
 use mathlib.Core.List.{List}
-use Prim.Native.Nat.{ℕ}
+use Prim.Native.Nat.{ℕ, _≤_, _<_}
 use lib.Ieee.{Float}
 use Rattle.rule.specs.Grid.{Point}
 use Rattle.rule.specs.Preserve.{crosses}
@@ -14,15 +14,20 @@ use Rattle.segment.specs.Against.{AgainstIs}
 use Rattle.blocks.specs.declared.Blocks.{Blocks}
 use Rattle.blocks.specs.Boxes.{Boxed}
 
+-- the present segment that starts at point i ends at j; none starts there if j is not below the number of points
+pub record LeadsTo (ws : List ℕ) (m : Layout) (i j : ℕ) : Type 0 where
+  pub some : j < m .points → Starts ws m i × (j ≡ nextAt ws m i)
+  pub none : m .points ≤ j → Starts ws m i → ⊥
+
 -- of the segment from point i to point j and the new one from l to r
 abbrev pub AgainstAt : Layout → List Float → List Float → (i j l r : ℕ) → Bool → Type 0
 AgainstAt m us vs i j l r c =
     AgainstIs (from us (m .x) i) (from vs (m .y) i) (from us (m .x) j) (from vs (m .y) j) (from us (m .x) l) (from vs (m .y) l) (from us (m .x) r) (from vs (m .y) r) c
 
--- does a present segment start at point i that is against the one from l to r
-pub record StandsIs (m : Layout) (us vs : List Float) (ws : List ℕ) (i l r : ℕ) (c : Bool) : Type 0 where
-  pub starts : c ≡ true → Starts ws m i
-  pub stands : Starts ws m i → AgainstAt m us vs i (nextAt ws m i) l r c
+-- it starts at point i, by its end j, and is against the one from l to r
+pub record StandsIs (m : Layout) (us vs : List Float) (i j l r : ℕ) (c : Bool) : Type 0 where
+  pub some : j < m .points → AgainstAt m us vs i j l r c
+  pub none : m .points ≤ j → c ≡ false
 
 -- does the new segment from l to r cross a present one of any ring, if these lie in their blocks' boxes
 abbrev pub CrossesIs : Blocks → Layout → (us vs fs : List Float) (ws : List ℕ) (l r : ℕ) → Bool → Type 0

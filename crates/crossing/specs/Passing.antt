@@ -27,8 +27,12 @@ pub record EndOf (b : Blocks) (k start n e : ℕ) : Type 0 where
   pub all : (e ≡ start + b .size) ⊎ (e ≡ n)
 
 -- where to walk on in block k, which ends at `end`, if the points below `from` are passed
-abbrev pub SkipIs : List Float → Blocks → ℕ → Bounds → (from end r : ℕ) → Type 0
-SkipIs fs b k new from end r = r ≡ cond (ltb from end && ltb k (b .number) && apart (boxAt fs b k) new) end from
+pub record SkipIs (fs : List Float) (b : Blocks) (k : ℕ) (new : Bounds) (from end r : ℕ) : Type 0 where
+  pub to : r ≡ cond (ltb from end && ltb k (b .number) && apart (boxAt fs b k) new) end from
+
+-- the point after i, or j, if that is one and further on
+abbrev pub BeyondIs : (i j n r : ℕ) → Type 0
+BeyondIs i j n r = (i < r) × ((r ≡ i + 1) ⊎ ((r ≡ j) × (j < n)))
 
 -- the links are those of rings, each by where it ends and what is kept of it
 pub record Ringed (ws : List ℕ) (m : Layout) : Type 0 where
@@ -55,8 +59,3 @@ WalkIs m us vs ws lo hi l r (Passed j) = Walks m us vs ws lo hi l r j
 
 pub record WalkDone (m : Layout) (us vs : List Float) (ws : List ℕ) (lo hi l r : ℕ) (c : Walked) : Type 0 where
   pub walked : WalkIs m us vs ws lo hi l r c
-
--- j comes after i, and no present segment starts between them
-pub record Beyond (m : Layout) (ws : List ℕ) (i j : ℕ) : Type 0 where
-  pub up : i < j
-  pub none : Ringed ws m → (k : ℕ) → i < k → k < j → Starts ws m k → ⊥

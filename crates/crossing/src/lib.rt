@@ -1,12 +1,11 @@
 // Does a new segment cross a present one: the links of all rings are walked, but for the blocks whose box is apart from the new segment's.
-ghost use mathlib.Core.Path.{_≡_};
 ghost use Prim.Native.Nat.{_<_, _≤_};
 ghost use Rattle.layout.specs.Points.{from, HasPoints};
 ghost use Rattle.links.specs.Words.{HasLinks};
 ghost use Rattle.segment.specs.Against.{AgainstIs};
 ghost use Rattle.blocks.specs.Boxes.{HasBoxes};
-ghost use Rattle.crossing.specs.Crossing.{AgainstAt, StandsIs, CrossesIs};
-ghost use Rattle.crossing.specs.Passing.{EndOf, SkipIs, WalkDone, Beyond};
+ghost use Rattle.crossing.specs.Crossing.{LeadsTo, AgainstAt, StandsIs, CrossesIs};
+ghost use Rattle.crossing.specs.Passing.{EndOf, SkipIs, BeyondIs, WalkDone};
 use blocks::Blocks;
 use bounds::Bounds;
 use layout::Layout;
@@ -102,41 +101,45 @@ fn walk(
 {
     let mut i = lo;
     while i < hi {
-        if stands(x, y, words, m, i, l, r) {
+        let j = leads_to(words, m, i);
+        if stands(x, y, m, i, j, l, r) {
             return Walked::Against;
         }
-        i = beyond(words, m, i);
+        i = beyond(i, j, m.points);
     }
     Walked::Passed(i)
 }
 
-// A point after i with no kept one between: where the links of i lead, if it is kept and they lead on.
-fn beyond(words: &[u32], m: Layout, i: usize) -> usize
+// Where the present segment that starts at point i ends; the number of points if none starts there.
+fn leads_to(words: &[u32], m: Layout, i: usize) -> usize
     requires { ⌜ HasLinks m (now words) × (i < m .points) ⌝ }
-    ensures { λ r. ⌜ Beyond m (now (words .entry)) i r ⌝ }
+    ensures { λ j. ⌜ LeadsTo (now (words .entry)) m i j ⌝ }
 {
     if !links::kept(words, m, i) {
-        return i + 1;
+        return m.points;
     }
-    let j = links::next(words, m, i) as usize;
+    links::next(words, m, i) as usize
+}
+
+// A point after i with no kept one between, if the segment that starts at i ends at j: that one, if it is further on.
+fn beyond(i: usize, j: usize, points: usize) -> usize
+    requires { ⌜ i < points ⌝ }
+    ensures { λ r. ⌜ BeyondIs i j points r ⌝ }
+{
     if j <= i {
         return i + 1;
     }
-    if m.points <= j {
+    if points <= j {
         return i + 1;
     }
     j
 }
 
-// A present segment starts at point i, and it is against the one from l to r.
-fn stands(x: &[f64], y: &[f64], words: &[u32], m: Layout, i: usize, l: usize, r: usize) -> bool
-    requires { ⌜ HasPoints m (now x) (now y) × HasLinks m (now words) × (i < m .points) × (l < m .points) × (r < m .points) ⌝ }
-    ensures { λ c. ⌜ StandsIs m (now (x .entry)) (now (y .entry)) (now (words .entry)) i l r c ⌝ }
+// A present segment starts at point i, by its end j, and it is against the one from l to r.
+fn stands(x: &[f64], y: &[f64], m: Layout, i: usize, j: usize, l: usize, r: usize) -> bool
+    requires { ⌜ HasPoints m (now x) (now y) × (i < m .points) × (l < m .points) × (r < m .points) ⌝ }
+    ensures { λ c. ⌜ StandsIs m (now (x .entry)) (now (y .entry)) i j l r c ⌝ }
 {
-    if !links::kept(words, m, i) {
-        return false;
-    }
-    let j = links::next(words, m, i) as usize;
     if m.points <= j {
         return false;
     }

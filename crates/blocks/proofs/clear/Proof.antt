@@ -9,7 +9,7 @@ use borrow.Author.Needs.{needs}
 use Rattle.bounds.specs.declared.Bounds.{Bounds}
 use Rattle.bounds.specs.Bounds.{ofNone}
 use Rattle.blocks.specs.declared.Blocks.{Blocks}
-use Rattle.blocks.specs.Boxes.{stored, cleared}
+use Rattle.blocks.specs.Boxes.{boxFloats, stored, cleared}
 use Rattle.blocks.proofs.clear.Statement.{statement}
 use Rattle.blocks.proofs.clear.Tie as tie
 
@@ -24,7 +24,7 @@ unfolding cleared
 clearing-start b fs = record { floats = refl; few = omega arith; is = refl }
 
 clearing-more : {b : Blocks} {fs fs′ fs″ : List Float} {k : ℕ} {c : Bounds} → Clearing b fs fs′ k → k < b .number → length fs″ ≡ length fs′ → c ≡ ofNone
-    → fs″ ≡ stored fs′ (b .at + 4 * k) c → Clearing b fs fs″ (k + 1)
+    → fs″ ≡ stored fs′ (b .at + boxFloats * k) c → Clearing b fs fs″ (k + 1)
 unfolding cleared
 clearing-more {b} {fs} {fs″ = fs″} {k = k} s low e f g =
     let more : suc k ≡ k + 1 = omega arith in
