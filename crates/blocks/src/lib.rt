@@ -9,7 +9,7 @@ ghost use Rattle.blocks.specs.Boxes.{box_floats, box_from, box_at, stored, spann
 use bounds::Bounds;
 use layout::Layout;
 
-#[derive(Drop)]
+#[derive(Clone, Copy)]
 pub struct Blocks {
     pub at: usize,
     pub size: usize,

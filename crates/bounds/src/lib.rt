@@ -5,7 +5,7 @@ ghost use Rattle.bounds.specs.Bounds.{lesser, greater, of_none, widened, apart};
 // The grid's end.
 const REACH: f64 = 16777216.0;
 
-#[derive(Drop)]
+#[derive(Clone, Copy)]
 pub struct Bounds {
     pub west: f64,
     pub east: f64,

@@ -81,7 +81,7 @@ fn skip(floats: &[f64], b: Blocks, k: usize, new: Bounds, from: usize, end: usiz
 }
 
 // A present segment that stands against the new one; or the point that the walk came to, with none behind it.
-#[derive(Drop)]
+#[derive(Clone, Copy)]
 enum Walked {
     Against,
     Passed(usize),

@@ -7,7 +7,7 @@ use rule::Line;
 
 // The heap has its areas from the start of the floats, and `capacity` places of three words each from `heap` on. The links of `points` points are three
 // runs of so many words, from `links` on: the previous point, the next one, the mark of a removed one. The coordinates start at x and at y.
-#[derive(Drop)]
+#[derive(Clone, Copy)]
 pub struct Layout {
     pub heap: usize,
     pub capacity: usize,

@@ -25,7 +25,7 @@ pub fn too_many_points(x: &[f64]) -> bool
 }
 
 // The least place with a coordinate off the grid. Not a point index: x may be longer than a u32 can say.
-#[derive(Drop)]
+#[derive(Clone, Copy)]
 pub enum Found {
     Nowhere,
     At(usize),

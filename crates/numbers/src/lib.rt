@@ -16,14 +16,14 @@ ghost use Rattle.numbers.specs.Reading.{
   ReadInto,
 };
 
-#[derive(Drop)]
+#[derive(Clone, Copy)]
 pub struct Number {
     pub value: u64,
     // the place past it
     pub next: usize,
 }
 
-#[derive(Drop)]
+#[derive(Clone, Copy)]
 struct Coordinate {
     value: f64,
     next: usize,

@@ -3,15 +3,15 @@ ghost use Rattle.std.specs.Prelude.{◌≡◌, ◌*◌, length};
 ghost use Rattle.rule.specs.Sizes.{slot_floats, slot_words};
 
 // A place in the lent points. Never a slot.
-#[derive(Drop)]
+#[derive(Clone, Copy)]
 pub struct PointIndex(pub u32);
 
 // One of the eight slots, or a number above 7, which every call refuses. Never a point.
-#[derive(Drop)]
+#[derive(Clone, Copy)]
 pub struct SlotNumber(pub u32);
 
 // The reasons of document 01, a case a row, in the table's order.
-#[derive(Drop)]
+#[derive(Clone, Copy)]
 pub enum Reason {
     LengthsDiffer,
     TooManyPoints,
@@ -27,21 +27,21 @@ pub enum Reason {
 }
 
 // A list was written, of so many indices; or nothing was.
-#[derive(Drop)]
+#[derive(Clone, Copy)]
 pub enum Thinned {
     Kept(u32),
     Refused(Reason),
 }
 
 // Clear, open, close.
-#[derive(Drop)]
+#[derive(Clone, Copy)]
 pub enum Outcome {
     Done,
     Refused(Reason),
 }
 
 // One removal, with the area.
-#[derive(Drop)]
+#[derive(Clone, Copy)]
 pub enum Step {
     Removed(PointIndex, f64),
     Finished,
@@ -49,14 +49,14 @@ pub enum Step {
 }
 
 // The points left were written, so many indices; or nothing was.
-#[derive(Drop)]
+#[derive(Clone, Copy)]
 pub enum Listing {
     Listed(u32),
     Refused(Reason),
 }
 
 // A line, or all rings of a polygon: how many points.
-#[derive(Drop)]
+#[derive(Clone, Copy)]
 pub struct Line {
     pub points: usize,
 }
@@ -72,7 +72,7 @@ impl Line {
 }
 
 // A ring table: how many rings.
-#[derive(Drop)]
+#[derive(Clone, Copy)]
 pub struct Polygon {
     pub rings: usize,
 }
@@ -88,7 +88,7 @@ impl Polygon {
 }
 
 // How much was lent as scratch. A thinning call needs so many places a point.
-#[derive(Drop)]
+#[derive(Clone, Copy)]
 pub struct Scratch {
     pub floats: usize,
     pub words: usize,
@@ -110,7 +110,7 @@ impl Scratch {
 }
 
 // Where a slot's part starts in the two lent slices.
-#[derive(Drop)]
+#[derive(Clone, Copy)]
 pub struct Slot {
     pub floats: usize,
     pub words: usize,
@@ -133,7 +133,7 @@ impl Slot {
 }
 
 // How much was lent as a work area.
-#[derive(Drop)]
+#[derive(Clone, Copy)]
 pub struct WorkArea {
     pub floats: usize,
     pub words: usize,

@@ -11,7 +11,7 @@ use vscore::VScore;
 pub const CHILDREN: usize = 4;
 
 // A place that stands below another, and the area there.
-#[derive(Drop)]
+#[derive(Clone, Copy)]
 struct Child {
     place: usize,
     area: f64,

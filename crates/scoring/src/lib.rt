@@ -10,7 +10,7 @@ use layout::Layout;
 use vscore::VScore;
 
 // The score of three points, or one of them is no point.
-#[derive(Drop)]
+#[derive(Clone, Copy)]
 pub enum Scored {
     Score(VScore),
     Missing,

@@ -47,7 +47,7 @@ pub fn simplify_vw(
     simplify(Rule::Point, x, y, tolerance, out, floats, words)
 }
 
-#[derive(Drop)]
+#[derive(Clone, Copy)]
 enum Rule {
     Index,
     Point,

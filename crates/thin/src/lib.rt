@@ -12,14 +12,14 @@ use layout::Layout;
 use vscore::VScore;
 
 // A removal, with its index and its area; or none to make. With the number of scores left.
-#[derive(Drop)]
+#[derive(Clone, Copy)]
 pub enum Stepped {
     Removed(u32, f64, usize),
     Finished(usize),
 }
 
 // A score taken off, or none to take. With the number of scores left.
-#[derive(Drop)]
+#[derive(Clone, Copy)]
 pub enum Picked {
     Found(VScore, usize),
     Nothing(usize),

@@ -81,7 +81,7 @@ fn run(
 }
 
 // A removal, with the number of scores left; or the ring's end.
-#[derive(Drop)]
+#[derive(Clone, Copy)]
 enum Moved {
     Removed(usize),
     Stopped,

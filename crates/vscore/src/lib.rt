@@ -2,7 +2,7 @@
 ghost use Rattle.std.specs.Prelude.{◌≡◌};
 ghost use Rattle.vscore.specs.Score.{score, sooner, demoted_by};
 
-#[derive(Drop)]
+#[derive(Clone, Copy)]
 pub struct VScore {
     pub left: u32,
     pub current: u32,
