@@ -1,4 +1,6 @@
 // The bits of a float, as a whole number.
+#![tactic(auto)]
+
 ghost use Rattle.std.specs.Prelude.{◌≡◌};
 ghost use Rattle.bits.specs.Bits.{bits_of};
 

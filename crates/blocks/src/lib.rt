@@ -1,5 +1,7 @@
 // Boxes of blocks of points in lent memory. `number` blocks of `size` points each, from point 0 on, have a box of four floats each, from `at` on; points past
 // the last block have none. A box holds every present segment that starts in its block, and only grows.
+#![tactic(auto)]
+
 ghost use Rattle.std.specs.Prelude.{◌≡◌, ◌+◌, ◌*◌, ◌<◌, ◌≤◌, length};
 ghost use Rattle.rule.specs.Sizes.{most_points};
 ghost use Rattle.layout.specs.Points.{HasPoints};

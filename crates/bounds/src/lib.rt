@@ -1,4 +1,6 @@
 // The least and the greatest coordinates of some points, by value: widened by a point, and compared with others.
+#![tactic(auto)]
+
 ghost use Rattle.std.specs.Prelude.{◌≡◌};
 ghost use Rattle.bounds.specs.Bounds.{lesser, greater, of_none, widened, apart};
 

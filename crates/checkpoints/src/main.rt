@@ -1,5 +1,7 @@
 // Runs the leaves and the answers at corner values and prints what they give, one case a line. A float is printed as its 64 bits.
 // tools/expect-checkpoints works out by exact arithmetic what must be printed.
+#![tactic(auto)]
+
 use rule::{PointIndex, Reason, Slot, SlotNumber};
 use vscore::VScore;
 

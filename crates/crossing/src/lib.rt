@@ -1,4 +1,6 @@
 // Does a new segment cross a present one: the links of all rings are walked, but for the blocks whose box is apart from the new segment's.
+#![tactic(auto)]
+
 ghost use Rattle.std.specs.Prelude.{◌<◌, ◌≤◌};
 ghost use Rattle.layout.specs.Points.{from, HasPoints};
 ghost use Rattle.links.specs.Words.{HasLinks};

@@ -1,4 +1,6 @@
 // How a call that thins ends: zeros in the scratch, the list, the count.
+#![tactic(auto)]
+
 ghost use Rattle.std.specs.Prelude.{◌≡◌, ◌≤◌, length};
 ghost use Rattle.rule.specs.Sizes.{most_points, scratch_floats, scratch_words};
 ghost use Rattle.rule.specs.Area.{zero_float, cleared};

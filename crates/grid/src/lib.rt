@@ -1,4 +1,6 @@
 // Whole coordinates in f64: the grid test, equal points, the area of a triangle, and its comparison with the tolerance.
+#![tactic(auto)]
+
 ghost use Rattle.std.specs.Prelude.{◌≡◌};
 ghost use Rattle.std.specs.Float.Ieee.{lt};
 ghost use Rattle.rule.specs.Grid.{on_grid, point_of, area2, half};

@@ -1,4 +1,6 @@
 // A heap of scores in lent memory, with four places below each: a score is pushed and popped.
+#![tactic(auto)]
+
 ghost use Rattle.scores.specs.Memory.{Holds};
 ghost use Rattle.heap.specs.Heap.{Pushed, Popped};
 

@@ -1,4 +1,6 @@
 // Where the runs of lent memory start: one layout for the scratch of a whole call and for a slot's part.
+#![tactic(auto)]
+
 ghost use Rattle.std.specs.Prelude.{◌≡◌, ◌≤◌};
 ghost use Rattle.rule.specs.Sizes.{most_points};
 ghost use Rattle.layout.specs.Layout.{scratch_of, slot_of};

@@ -1,4 +1,6 @@
 // Lent memory: the tests of the reasons 1 to 4 and 7 to 9, each a row of document 01's table, and equal points. Each is exact for every input.
+#![tactic(auto)]
+
 ghost use Rattle.std.specs.Prelude.{◌≡◌, ◌<◌, length};
 ghost use Rattle.rule.specs.Grid.{points, at, positive};
 ghost use Rattle.rule.specs.Segment.{same};

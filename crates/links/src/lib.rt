@@ -1,4 +1,6 @@
 // Neighbours and marks of points in lent memory: `points` words each, from `links` on. The number of points stands for no neighbour.
+#![tactic(auto)]
+
 ghost use Rattle.std.specs.Prelude.{◌≡◌, ◌<◌, ◌≤◌, eqb, length};
 ghost use Rattle.rule.specs.Sizes.{most_points};
 ghost use Rattle.links.specs.Words.{HasLinks, previous_at, next_at, mark_at, written, linked_as, unlinked};

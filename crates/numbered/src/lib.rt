@@ -1,4 +1,6 @@
 // The number of a reason, and the place that comes with it.
+#![tactic(auto)]
+
 ghost use Rattle.std.specs.Prelude.{◌≡◌};
 ghost use Rattle.rule.specs.Answers.{number, place};
 

@@ -1,4 +1,6 @@
 // Reads numbers from lines of text, where blanks part them. What is missing at a line's end reads as 0.
+#![tactic(auto)]
+
 ghost use Rattle.std.specs.Prelude.{◌≡◌, ◌%◌, min, T, ◌==◌, from_bits};
 ghost use Rattle.std.specs.Float.{binary64};
 ghost use Rattle.numbers.specs.Reading.{

@@ -1,5 +1,7 @@
 // Runs the plain rule on a line of 4,096 points with many ties until nothing is left to remove, one step at a time in lent memory. Prints how many
 // removals there were and a sum over their indices and areas in order. tools/expect-order works out by exact arithmetic what must be printed.
+#![tactic(auto)]
+
 ghost use Rattle.std.specs.Prelude.{◌≤◌};
 ghost use Rattle.rule.specs.Sizes.{most_points};
 ghost use Rattle.layout.specs.Layout.{Room};

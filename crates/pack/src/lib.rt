@@ -1,4 +1,6 @@
 // The packing of an answer into the u64 that C gets: a number of 32 bits in each half.
+#![tactic(auto)]
+
 ghost use Rattle.std.specs.Prelude.{◌≡◌};
 ghost use Rattle.rule.specs.Answers.{refused_for, of_thinned, of_outcome, of_step, of_listing};
 ghost use Rattle.pack.specs.Packing.{Halves, area_after, Packed};

@@ -1,4 +1,6 @@
 // A slot's part of the work area: begun, stepped, listed, whatever it holds.
+#![tactic(auto)]
+
 ghost use Rattle.std.specs.Prelude.{◌≡◌, true, ◌+◌, ◌≤◌, length};
 ghost use Rattle.rule.specs.Sizes.{slot_floats, slot_words};
 ghost use Rattle.rule.specs.Grid.{points, is_finite};

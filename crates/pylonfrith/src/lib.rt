@@ -1,4 +1,6 @@
 // The C face. A slice is a pointer and a length in elements; an answer is one u64, packed.
+#![tactic(auto)]
+
 ghost use Rattle.std.specs.Prelude.{◌≡◌};
 ghost use Rattle.rule.specs.Plain.{index_rule, point_rule};
 ghost use Rattle.rule.specs.Rings.{line_rule};

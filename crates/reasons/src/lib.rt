@@ -1,4 +1,6 @@
 // The reasons of a whole call, in document 01's order.
+#![tactic(auto)]
+
 ghost use Rattle.std.specs.Prelude.{◌≡◌, length};
 ghost use Rattle.rule.specs.Answers.{of_outcome};
 ghost use Rattle.rule.specs.Reasons.{first_off_grid, first_of, line_rows, repeat_reason, thin_reason};

@@ -1,4 +1,6 @@
 // Repeated points: consecutive (geo's LineString), and anywhere (its MultiPoint).
+#![tactic(auto)]
+
 ghost use Rattle.std.specs.Prelude.{◌≡◌, ◌-◌, ◌≤◌, ◌<◌, length};
 ghost use Rattle.rule.specs.Grid.{points};
 ghost use Rattle.rule.specs.Repeat.{consecutive, anywhere};

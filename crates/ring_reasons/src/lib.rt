@@ -1,4 +1,6 @@
 // The reasons of a polygon's call, in document 01's order, and the tests of its ring table and outputs.
+#![tactic(auto)]
+
 ghost use Rattle.std.specs.Prelude.{◌≡◌, not, ◌-◌, ◌<◌, ◌≤◌, length};
 ghost use Rattle.rule.specs.Grid.{points};
 ghost use Rattle.rule.specs.Plain.{indices};

@@ -1,4 +1,6 @@
 // What the calls answer, and the sizes: the words of document 01 as types.
+#![tactic(auto)]
+
 ghost use Rattle.std.specs.Prelude.{◌≡◌, ◌*◌, length};
 ghost use Rattle.rule.specs.Sizes.{slot_floats, slot_words};
 

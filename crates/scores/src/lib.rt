@@ -1,5 +1,7 @@
 // Scores in lent memory: place j has its area at floats[j] and left, current and right at words[heap + 3 j ..]. A score is loaded and stored, and of the
 // places that stand below one the first is found.
+#![tactic(auto)]
+
 ghost use Rattle.std.specs.Prelude.{◌≡◌, ◌+◌, ◌<◌, ◌≤◌, length};
 ghost use Rattle.scores.specs.Memory.{Holds, score_at, put_floats, put_words};
 ghost use Rattle.scores.specs.Children.{children, child_at, IsChild, sooner_of, FirstOf, First};

@@ -1,4 +1,6 @@
 // A point's score from its neighbours in lent memory, demoted or not, and put on the heap.
+#![tactic(auto)]
+
 ghost use Rattle.std.specs.Prelude.{◌≡◌};
 ghost use Rattle.rule.specs.Grid.{half};
 ghost use Rattle.layout.specs.Layout.{Room};

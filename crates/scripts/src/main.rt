@@ -4,6 +4,8 @@
 //     edge                 prints the last places of the area, then those past it
 //     -- TITLE
 // tools/expect-scripts plays the script on a model of document 01, and so works out what must be printed.
+#![tactic(auto)]
+
 ghost use Rattle.std.specs.Prelude.{◌≡◌, length};
 
 use rule::{Listing, Outcome, Reason, SlotNumber, Step, WorkArea};

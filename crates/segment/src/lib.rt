@@ -1,5 +1,7 @@
 // Do two segments share a point, and is a present one against a new one: exactly, on coordinates of the grid. Comparisons and the signs of cross
 // products decide; off the grid nothing is promised.
+#![tactic(auto)]
+
 ghost use Rattle.std.specs.Prelude.{◌≡◌, T};
 ghost use Rattle.rule.specs.Grid.{on_grid, coord, point_of, turn};
 ghost use Rattle.rule.specs.Segment.{one_side, overlap, meets};

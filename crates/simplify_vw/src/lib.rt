@@ -1,5 +1,7 @@
 // Plain thinning of a line, whole calls: the index rule (geo's simplify_vw_idx) and the point rule (its simplify_vw).
 // Any two results that a call's statement allows for the same input are equal: `thins_settled` of rule/proofs/Settled.
+#![tactic(auto)]
+
 ghost use Rattle.std.specs.Prelude.{◌≡◌, ◌≤◌, length};
 ghost use Rattle.rule.specs.Sizes.{most_points};
 ghost use Rattle.rule.specs.Grid.{points};

@@ -1,5 +1,7 @@
 // The preserving rule: a line, and the rings of a polygon, each beside the earlier ones already thinned and the later ones whole.
 // Each statement settles its call: rule's `thins_settled` and `rings_settled`.
+#![tactic(auto)]
+
 ghost use Rattle.std.specs.Prelude.{◌≡◌, map, ◌≤◌, length};
 ghost use Rattle.rule.specs.Sizes.{most_points};
 ghost use Rattle.rule.specs.Grid.{points};

@@ -1,4 +1,6 @@
 // The reasons of a call on a slot, in document 01's order.
+#![tactic(auto)]
+
 ghost use Rattle.std.specs.Prelude.{◌≡◌, [], ◌<◌, ◌≤◌, length};
 ghost use Rattle.std.proofs.Math.Option.{none};
 ghost use Rattle.rule.specs.Sizes.{slots, area_words};

@@ -1,4 +1,6 @@
 // Eight lines in one work area, thinned one removal at a time. A call tests its reasons in document 01's order, and hands the named slot's part on.
+#![tactic(auto)]
+
 ghost use Rattle.rule.specs.Answers.{of_outcome, of_step, of_listing};
 ghost use Rattle.rule.specs.Area.{area};
 ghost use Rattle.rule.specs.SlotCalls.{Clears, Closes, Opens, Steps, Reads};

@@ -1,4 +1,6 @@
 // Thinning in lent memory: the parts of a step, for both rules and for whole calls and slots alike, and the step of the plain rule.
+#![tactic(auto)]
+
 ghost use Rattle.std.specs.Prelude.{◌≤◌};
 ghost use Rattle.rule.specs.Sizes.{most_points};
 ghost use Rattle.layout.specs.Layout.{Room};

@@ -1,4 +1,6 @@
 // One ring thinned in lent memory beside the others, a removal at a time.
+#![tactic(auto)]
+
 ghost use Rattle.std.specs.Prelude.{◌≡◌, ◌&&◌, ◌≤◌, leb};
 ghost use Rattle.rule.specs.Sizes.{most_points};
 ghost use Rattle.layout.specs.Layout.{Room};

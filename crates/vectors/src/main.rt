@@ -1,6 +1,8 @@
 // Replays the list of vectors on standard input through the whole calls and prints a line a call. Each vector's call must answer as the
 // list says, write the list's indices and ring table, zero its scratch up to the size, and leave the rest as it was lent.
 // oracle/README.md has the list's format; tools/make-vectors makes the list, and works out from it what must be printed.
+#![tactic(auto)]
+
 mod held;
 mod list;
 

@@ -1,4 +1,6 @@
 // A score: a candidate with its neighbours and its area. Made, compared and demoted by value.
+#![tactic(auto)]
+
 ghost use Rattle.std.specs.Prelude.{◌≡◌};
 ghost use Rattle.vscore.specs.Score.{score, sooner, demoted_by};
 
