@@ -3,3 +3,4 @@ pub mod Values
 pub mod Whole
 pub mod Halves
 pub mod Cross
+pub mod Shift

@@ -17,8 +17,7 @@ use Rattle.grid.proofs.Values.{lt_values}
 use Rattle.grid.proofs.Whole.{Whole, add_values, neg_value}
 use Rattle.grid.proofs.Halves.{f½, halved}
 use Rattle.grid.proofs.Cross.{turn_is}
-use Rattle.grid.proofs.area.Statement.{statement}
-use Rattle.grid.proofs.area.Tie as tie
+use Rattle.grid.proofs.area.Goals as goal
 
 negative : (s : Bool) (n : ℕ) → below s (n * 1) false 0 ≡ true → not s ≡ false
 negative true n t = refl
@@ -49,13 +48,10 @@ module _ {d : Float} {z : ℤ} {k : ℕ} (w : Whole d z k) (h : k ≤ 2 ^ 52) wh
       (rw (add_values d zero_float w.sign false w.size 0 w.value (refl, refl), plus_zero w.sign w.size (sym sign_is ∙ t))
       (round_whole binary64 false w.size (le_trans w.bound (le_trans h (lit≤ tt)))))
 
-returns : tie.Need-returns
+pub returns-then-d : goal.returns-then-d
 unfolding of_bits area2
-returns c a b e = below_zero (turn_is a b e) (lit≤ tt) c.if1.true
+returns-then-d c a b e = below_zero (turn_is a b e) (lit≤ tt) c.if-d.true
 
-returns-2 : tie.Need-returns-2
+pub returns : goal.returns
 unfolding of_bits area2
-returns-2 c a b e = otherwise (turn_is a b e) (lit≤ tt) c.if1.false
-
-pub area-spec : {M : Type 1} → statement M
-area-spec = tie.close (tie.spec returns returns-2)
+returns c a b e = otherwise (turn_is a b e) (lit≤ tt) c.if-d.false

@@ -122,6 +122,16 @@ unfolding sameℤ
 same_self (pos n) = eq-eqb n n refl
 same_self (negsuc n) = eq-eqb n n refl
 
+total_within : (s : Bool) (a d : ℕ) → a * 1 < suc reach * d → (2 ^ 52 * d ≤ total s a d) × (total s a d < 2 ^ 53 * d)
+unfolding total
+total_within false a d h = (omega arith, omega arith)
+total_within true a d h = (omega arith, omega arith)
+
+shift_added : (s : Bool) (m : ℕ) (e : ℤ) → m * up e * 1 < suc reach * down e → add binary64 (fin s m e) shift ≡ round binary64 false (total s (m * up e) (down e)) (down e)
+unfolding add sum total
+shift_added false m e h = rw (mul-one (m * up e), mul-one (down e))
+shift_added true m e h = rw (mul-one (m * up e), mul-one (down e), lt-ltb (m * up e) (mid * down e) (omega arith))
+
 module _ (s : Bool) (m : ℕ) (e : ℤ) (h : m * up e * 1 < suc reach * down e) where
   abbrev v : Float
   v = fin s m e
@@ -136,12 +146,10 @@ module _ (s : Bool) (m : ℕ) (e : ℤ) (h : m * up e * 1 < suc reach * down e) 
   q = closest (total s a d) d
 
   there : add binary64 v shift ≡ round binary64 false (total s a d) d
-  unfolding add sum total
-  there = elim s [ false ↦ rw (mul-one a, mul-one d) | true ↦ rw (mul-one a, mul-one d, lt-ltb a (mid * d) (omega arith)) ]
+  there = shift_added s m e h
 
   ends : (2 ^ 52 * d ≤ total s a d) × (total s a d < 2 ^ 53 * d)
-  unfolding total
-  ends = elim s [ false ↦ (omega arith, omega arith) | true ↦ (omega arith, omega arith) ]
+  ends = total_within s a d h
 
   -- what comes back is whole, v on the grid or not
   again : Whole (shifted v) (pos q -ℤ pos mid) (2 ^ 53)
