@@ -12,8 +12,7 @@ use Rattle.vscore.specs.Score.{sooner}
 use Rattle.scores.specs.declared.Child.{Child}
 use Rattle.scores.specs.Memory.{score_at}
 use Rattle.scores.specs.Children.{IsChild, sooner_of}
-use Rattle.scores.proofs.sooner_of.Statement.{statement}
-use Rattle.scores.proofs.sooner_of.Tie as tie
+use Rattle.scores.proofs.sooner_of.Goals as goal
 
 module _ (fs : List Float) (ws : List ℕ) (m : Layout) (a b : Child) where
   -- the score of b is sooner than that of a
@@ -59,25 +58,18 @@ module _ (fs : List Float) (ws : List ℕ) (m : Layout) (a b : Child) where
     untied_first : lt b.area a.area ≡ false → a ≡ sooner_of fs ws m a b
     untied_first e = first (by_areas ∙ e)
 
-returns : tie.Need-returns
-returns c = tied_second _ _ _ _ _ c.before.before.before.load.ensures c.before.before.load2.ensures (sym c.before.sooner.ensures ∙ c.if2.true)
+pub returns-then-sooner : goal.returns-then-sooner
+returns-then-sooner c = tied_second _ _ _ _ _ c.load-s.ensures c.load-t.ensures (sym c.sooner.ensures ∙ c.if-sooner.true)
 
-returns-2 : tie.Need-returns-2
-returns-2 c = tied_first _ _ _ _ _ c.before.before.before.load.ensures c.before.before.load2.ensures (sym c.before.sooner.ensures ∙ c.if2.false)
+pub returns-then-b-a : goal.returns-then-b-a
+returns-then-b-a c = tied_first _ _ _ _ _ c.load-s.ensures c.load-t.ensures (sym c.sooner.ensures ∙ c.if-sooner.false)
 
-returns-3 : tie.Need-returns-3
-returns-3 c =
-    let e = c.before.before.before in
-    let i = e.before.before.before.before.before.requires in
-    untied_second _ _ _ _ _ i.0 i.1 e.if1.false c.if3.true
+pub returns-then-b-a-2 : goal.returns-then-b-a-2
+returns-then-b-a-2 c =
+    let i = c.requires in
+    untied_second _ _ _ _ _ i.0 i.1 c.if-b-a.false c.if-b-a-2.true
 
-returns-4 : tie.Need-returns-4
-returns-4 c =
-    let e = c.before.before.before in
-    let i = e.before.before.before.before.before.requires in
-    untied_first _ _ _ _ _ i.0 i.1 e.if1.false c.if3.false
-
-pub sooner-of-spec : {M : Type 1} → statement M
-sooner-of-spec =
-    tie.close
-    (tie.spec (λ c κs. search rules) (λ c κs. search rules) (λ c κs. search rules) returns returns-2 returns-3 returns-4)
+pub returns : goal.returns
+returns c =
+    let i = c.requires in
+    untied_first _ _ _ _ _ i.0 i.1 c.if-b-a.false c.if-b-a-2.false
