@@ -4,3 +4,5 @@ pub mod Heap
 mod Places
 mod Stored
 mod Holes
+mod Sinking
+mod Rising
