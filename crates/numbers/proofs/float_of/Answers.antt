@@ -1,9 +1,8 @@
 -- `numbers::float_of` gives the float of a pattern: no NaN pattern is read as a float, and each is NaN. Assumes nothing.
-use Rattle.std.proofs.Common.{◌≡◌, ℕ, ◌/◌, ◌%◌, Bool, not, T, sym, refl, ◌∙◌, rules, eq-eqb, ne_eqb}
+use Rattle.std.proofs.Common.{◌≡◌, ℕ, ◌/◌, ◌%◌, Bool, not, T, sym, refl, ◌∙◌, eq-eqb, ne_eqb}
 use mathlib.Core.Bool.{and-false}
 use lib.Ieee.{Format, nan, binary64, hid, ones, top, nan_bits, of_fields, of_bits, div}
-use Rattle.numbers.proofs.float_of.Statement.{statement}
-use Rattle.numbers.proofs.float_of.Tie as tie
+use Rattle.numbers.proofs.float_of.Goals as goal
 
 -- the exponent's field is not all ones
 by_exponent : (f : Format) (b : ℕ) → (b % top f / hid f ≡ ones f → ⊥) → T (not (nan_bits f b))
@@ -28,14 +27,11 @@ zero_over_zero : div binary64 (of_bits binary64 0) (of_bits binary64 0) ≡ nan
 unfolding div of_bits
 zero_over_zero = refl
 
-float-from-bits-result : tie.Need-float-from-bits-result
-float-from-bits-result c = by_exponent binary64 _ c.if1.true
+pub float_from_bits-result : goal.float_from_bits-result
+float_from_bits-result c = by_exponent binary64 _ c.if-bits-ne2047.true
 
-float-from-bits-result-2 : tie.Need-float-from-bits-result-2
-float-from-bits-result-2 c = by_digits binary64 _ c.if2.true
+pub float_from_bits-result-then-bits-eq0 : goal.float_from_bits-result-then-bits-eq0
+float_from_bits-result-then-bits-eq0 c = by_digits binary64 _ c.if-bits-eq0.true
 
-returns-3 : tie.Need-returns-3
-returns-3 c = zero_over_zero ∙ sym (a_nan c.before.before.args.bits c.before.if1.false c.if2.false)
-
-pub float-of-spec : {M : Type 1} → statement M
-float-of-spec = tie.close (tie.spec float-from-bits-result (λ c. search rules) float-from-bits-result-2 (λ c. search rules) returns-3)
+pub returns : goal.returns
+returns c = zero_over_zero ∙ sym (a_nan c.args.bits c.if-bits-ne2047.false c.if-bits-eq0.false)
