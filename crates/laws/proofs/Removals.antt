@@ -132,7 +132,7 @@ pub data OneByOne : List ℕ → List Candidate → Type 0 where
 pub one_take : {ks : List ℕ} {cs : List Candidate} (n : ℕ) → OneByOne ks cs → OneByOne ks (take n cs)
 one_take zero r = stops
 one_take (suc n) stops = stops
-one_take (suc n) (goes m r) = goes m (one_take n r)
+one_take {ks} (suc n) (goes {f} {c} {cs} m r) = goes m (one_take {ks = without c.current ks} n r)
 
 -- at most two fewer than there were points
 pub one_few : {ks : List ℕ} {cs : List Candidate} → OneByOne ks cs → length cs ≤ length ks - 2
