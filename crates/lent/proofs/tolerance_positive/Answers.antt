@@ -10,8 +10,7 @@ use lib.Ieee.Fits.{up_pos, down_pos}
 use borrow.Author.Tests.{lt-ltb}
 use Rattle.rule.specs.Area.{zero_float}
 use Rattle.rule.specs.Grid.{positive}
-use Rattle.lent.proofs.tolerance_positive.Statement.{statement}
-use Rattle.lent.proofs.tolerance_positive.Tie as tie
+use Rattle.lent.proofs.tolerance_positive.Goals as goal
 
 scaled : (m u w : ℕ) → 0 < u → 0 < w → ltb 0 (m * u * w) ≡ ltb 0 m
 scaled zero u w U W = rw (zero-mul u, zero-mul w)
@@ -24,9 +23,6 @@ zero_below (inf s) = refl
 zero_below (fin true m e) = refl
 zero_below (fin false m e) = rw zero-mul (scaled m (up e) (down (pos 0)) (up_pos e) (down_pos (pos 0)))
 
-returns : tie.Need-returns
+pub returns : goal.returns
 unfolding of_bits
 returns c = zero_below c.args.tolerance
-
-pub tolerance-positive-spec : {M : Type 1} → statement M
-tolerance-positive-spec = tie.close (tie.spec returns)

@@ -7,19 +7,18 @@ use lib.Dec.{ltb}
 use borrow.Author.Rules.{rules}
 use borrow.Author.Tests.{ltb-true, ltb-false, lt-ltb, le-ltb}
 use Rattle.rule.specs.Sizes.{scratch_floats, scratch_words}
-use Rattle.lent.proofs.scratch_short.Statement.{statement}
-use Rattle.lent.proofs.scratch_short.Tie as tie
+use Rattle.lent.proofs.scratch_short.Goals as goal
 
-returns : tie.Need-returns
-returns c =
-    let s = c.before.before.new in
-    let n = c.before.before.before.before.before.args.points in
+pub returns-then-scratch-points : goal.returns-then-scratch-points
+returns-then-scratch-points c =
+    let s = c.new-scratch in
+    let n = c.args.points in
     rw (← s.ensures.0, lt-ltb s.result.floats (scratch_floats n) (omega arith))
 
-returns-2 : tie.Need-returns-2
-returns-2 c =
-    let s = c.before.before.before.new in
-    let n = c.before.before.before.before.before.before.args.points in
+pub returns : goal.returns
+returns c =
+    let s = c.new-scratch in
+    let n = c.args.points in
     rw (← s.ensures.0, ← s.ensures.1, le-ltb s.result.floats (scratch_floats n) (omega arith)) (by_division s.result.words n)
   where
     by_division : (places n : ℕ) → ltb (places / scratch_words 1) n ≡ ltb places (scratch_words n)
@@ -28,6 +27,3 @@ returns-2 c =
         go : (b : Bool) → ltb (places / scratch_words 1) n ≡ b → b ≡ ltb places (scratch_words n)
         go true e = sym (lt-ltb places (scratch_words n) (omega (arith, ltb-true (places / scratch_words 1) n e)))
         go false e = sym (le-ltb places (scratch_words n) (omega (arith, ltb-false (places / scratch_words 1) n e)))
-
-pub scratch-short-spec : {M : Type 1} → statement M
-scratch-short-spec = tie.close (tie.spec (λ c κs. search rules) returns returns-2)

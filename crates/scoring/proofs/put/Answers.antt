@@ -1,0 +1,14 @@
+-- `scoring::put` meets its contract. Assumes nothing.
+use borrow.Author.Rules.{rules}
+use Rattle.scoring.proofs.Putting.{put_full, put_missing, put_pushes}
+use Rattle.scoring.proofs.put.Goals as goal
+
+pub returns-then-m-len : goal.returns-then-m-len
+returns-then-m-len c = put_full _ c.if-m-len.true
+
+pub returns-in-Missing : goal.returns-in-Missing
+returns-in-Missing c = put_missing c.enum_told-1.given.1
+
+pub returns-in-Score : goal.returns-in-Score
+returns-in-Score c =
+    put_pushes c.scored-1.given.1 c.if-m-len.false c.push.ensures
