@@ -10,9 +10,9 @@ returns-then-not-demote c = let a = c.args in demoted_not a.demote a.tolerance a
 pub returns-in-Missing : goal.returns-in-Missing
 returns-in-Missing c =
     let a = c.args in
-    demoted_none a.demote a.tolerance a.scored (c.if-not-demote.false) c.enum_told-1.given.1
+    demoted_none a.demote a.tolerance a.scored (c.if-not-demote.false) c.in-Missing.is
 
 pub returns-in-Score : goal.returns-in-Score
 returns-in-Score c =
     let a = c.args in
-    demoted_one a.demote a.tolerance a.scored (c.if-not-demote.false) c.scored-1.given.1 c.demoted.ensures
+    demoted_one a.demote a.tolerance a.scored (c.if-not-demote.false) c.in-Score.is c.demoted.ensures

@@ -7,8 +7,8 @@ pub returns-then-m-len : goal.returns-then-m-len
 returns-then-m-len c = put_full _ c.if-m-len.true
 
 pub returns-in-Missing : goal.returns-in-Missing
-returns-in-Missing c = put_missing c.enum_told-1.given.1
+returns-in-Missing c = put_missing c.in-Missing.is
 
 pub returns-in-Score : goal.returns-in-Score
 returns-in-Score c =
-    put_pushes c.scored-1.given.1 c.if-m-len.false c.push.ensures
+    put_pushes c.in-Score.is c.if-m-len.false c.push.ensures
