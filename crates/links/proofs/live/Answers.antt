@@ -12,17 +12,7 @@ use Rattle.vscore.specs.declared.VScore.{VScore}
 use Rattle.links.specs.Words.{previous_at, next_at, mark_at}
 use Rattle.links.specs.Calls.{LiveIs}
 use Rattle.links.proofs.Tests.{both}
-use Rattle.links.proofs.live.Statement.{statement}
-use Rattle.links.proofs.live.Tie as tie
-
-returns : tie.Need-returns
-returns c = record { live = λ e. absurd (false≢true e); stale = λ e v. omega (arith, v.left, c.if1.true) }
-
-returns-2 : tie.Need-returns-2
-returns-2 c = record { live = λ e. absurd (false≢true e); stale = λ e v. omega (arith, v.current, c.if2.true) }
-
-returns-3 : tie.Need-returns-3
-returns-3 c = record { live = λ e. absurd (false≢true e); stale = λ e v. omega (arith, v.right, c.if3.true) }
+use Rattle.links.proofs.live.Goals as goal
 
 -- the three tests at once, and what they read
 module _ {ws : List ℕ} {m : Layout} {s : VScore} (l : s.left < m.points) (c : s.current < m.points) (r : s.right < m.points)
@@ -46,27 +36,16 @@ module _ {ws : List ℕ} {m : Layout} {s : VScore} (l : s.left < m.points) (c : 
         (sym e ∙ rw (k, eq-eqb (mark_at ws m s.current) 0 v.unmarked, eq-eqb p s.left (b ∙ v.behind), eq-eqb q s.right (a ∙ v.ahead)));
   }
 
-returns-4 : tie.Need-returns-4
-returns-4 c =
-    let n = c.before.before in
-    let k = n.before.before in
-    let r = k.before in
-    let m = r.before.before.before in
-    let l = m.before.before in
-    tells (omega (arith, l.if1.false)) (omega (arith, m.if2.false)) (omega (arith, r.if3.false)) k.kept.ensures n.before.previous.ensures
-    n.next.ensures
+pub returns-then-m-s : goal.returns-then-m-s
+returns-then-m-s c = record { live = λ e. absurd (false≢true e); stale = λ e v. omega (arith, v.left, c.if-m-s.true) }
 
-pub live-spec : {M : Type 1} → statement M
-live-spec =
-    tie.close
-    (tie.spec
-    (λ c. search rules)
-    (λ c. search rules)
-    returns
-    returns-2
-    (λ c. search rules)
-    returns-3
-    (λ c κs. search rules)
-    (λ c κs. search rules)
-    (λ c κs. search rules)
-    returns-4)
+pub returns-then-m-c : goal.returns-then-m-c
+returns-then-m-c c = record { live = λ e. absurd (false≢true e); stale = λ e v. omega (arith, v.current, c.if-m-c.true) }
+
+pub returns-then-m-s-2 : goal.returns-then-m-s-2
+returns-then-m-s-2 c = record { live = λ e. absurd (false≢true e); stale = λ e v. omega (arith, v.right, c.if-m-s-2.true) }
+
+pub returns : goal.returns
+returns c =
+    tells (omega (arith, c.if-m-s.false)) (omega (arith, c.if-m-c.false)) (omega (arith, c.if-m-s-2.false)) c.kept-unmarked.ensures c.previous-p.ensures
+    c.next-q.ensures
