@@ -3,8 +3,7 @@ use mathlib.Core.Path.{◌≡◌}
 use mathlib.Core.Bool.{true, false}
 use lib.Ieee.{Float, le}
 use Rattle.bounds.specs.Bounds.{greater}
-use Rattle.bounds.proofs.greater.Statement.{statement}
-use Rattle.bounds.proofs.greater.Tie as tie
+use Rattle.bounds.proofs.greater.Goals as goal
 
 first : (u v : Float) → le v u ≡ true → u ≡ greater u v
 unfolding greater
@@ -14,11 +13,8 @@ second : (u v : Float) → le v u ≡ false → v ≡ greater u v
 unfolding greater
 second u v e = rw e
 
-returns : tie.Need-returns
-returns c = first _ _ c.if1.true
+pub returns-then-v-u : goal.returns-then-v-u
+returns-then-v-u c = first _ _ c.if-v-u.true
 
-returns-2 : tie.Need-returns-2
-returns-2 c = second _ _ c.if1.false
-
-pub greater-spec : {M : Type 1} → statement M
-greater-spec = tie.close (tie.spec returns returns-2)
+pub returns : goal.returns
+returns c = second _ _ c.if-v-u.false

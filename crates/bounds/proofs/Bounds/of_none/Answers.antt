@@ -3,12 +3,8 @@ use mathlib.Core.Path.{refl}
 use lib.Ieee.{of_bits, neg, odd}
 use Rattle.rule.specs.Grid.{half}
 use Rattle.bounds.specs.Bounds.{of_none}
-use Rattle.bounds.proofs.Bounds.of_none.Statement.{statement}
-use Rattle.bounds.proofs.Bounds.of_none.Tie as tie
+use Rattle.bounds.proofs.Bounds.of_none.Goals as goal
 
-returns : tie.Need-returns
+pub returns : goal.returns
 unfolding of_none half odd of_bits neg
 returns c = refl
-
-pub of-none-spec : {M : Type 1} → statement M
-of-none-spec = tie.close (tie.spec returns)

@@ -11,8 +11,7 @@ use Rattle.rule.specs.Area.{zero_float}
 use Rattle.rule.specs.Segment.{one_side}
 use Rattle.grid.proofs.Whole.{Whole, zero_whole, lt_whole}
 use Rattle.grid.proofs.Cross.{turn_is}
-use Rattle.segment.proofs.one_side.Statement.{statement}
-use Rattle.segment.proofs.one_side.Tie as tie
+use Rattle.segment.proofs.one_side.Goals as goal
 
 when_above : (u v : ℤ) → lt_z (pos 0) u ≡ true → lt_z (pos 0) v ≡ one_side u v
 unfolding one_side
@@ -43,17 +42,14 @@ module _ {x y : Float} {u v : ℤ} {j k : ℕ} (p : Whole x u j) (q : Whole y v 
   on_line : lt zero_float x ≡ false → lt x zero_float ≡ false → false ≡ one_side u v
   on_line h g = when_on u v (sym (lt_whole zero_whole p) ∙ h) (sym (lt_whole p zero_whole) ∙ g)
 
-returns : tie.Need-returns
+pub returns-then-u : goal.returns-then-u
 unfolding of_bits
-returns k a b c d = above_line (turn_is a b c) (turn_is a b d) k.if1.true
+returns-then-u k a b c d = above_line (turn_is a b c) (turn_is a b d) k.if-u.true
 
-returns-2 : tie.Need-returns-2
+pub returns-then-u-2 : goal.returns-then-u-2
 unfolding of_bits
-returns-2 k a b c d = below_line (turn_is a b c) (turn_is a b d) k.if2.true
+returns-then-u-2 k a b c d = below_line (turn_is a b c) (turn_is a b d) k.if-u-2.true
 
-returns-3 : tie.Need-returns-3
+pub returns : goal.returns
 unfolding of_bits
-returns-3 k a b c d = on_line (turn_is a b c) (turn_is a b d) k.before.if1.false k.if2.false
-
-pub one-side-spec : {M : Type 1} → statement M
-one-side-spec = tie.close (tie.spec returns returns-2 returns-3)
+returns k a b c d = on_line (turn_is a b c) (turn_is a b d) k.if-u.false k.if-u-2.false

@@ -3,8 +3,7 @@ use mathlib.Core.Path.{◌≡◌}
 use mathlib.Core.Bool.{true, false}
 use lib.Ieee.{Float, le}
 use Rattle.bounds.specs.Bounds.{lesser}
-use Rattle.bounds.proofs.lesser.Statement.{statement}
-use Rattle.bounds.proofs.lesser.Tie as tie
+use Rattle.bounds.proofs.lesser.Goals as goal
 
 first : (u v : Float) → le u v ≡ true → u ≡ lesser u v
 unfolding lesser
@@ -14,11 +13,8 @@ second : (u v : Float) → le u v ≡ false → v ≡ lesser u v
 unfolding lesser
 second u v e = rw e
 
-returns : tie.Need-returns
-returns c = first _ _ c.if1.true
+pub returns-then-u-v : goal.returns-then-u-v
+returns-then-u-v c = first _ _ c.if-u-v.true
 
-returns-2 : tie.Need-returns-2
-returns-2 c = second _ _ c.if1.false
-
-pub lesser-spec : {M : Type 1} → statement M
-lesser-spec = tie.close (tie.spec returns returns-2)
+pub returns : goal.returns
+returns c = second _ _ c.if-u-v.false
