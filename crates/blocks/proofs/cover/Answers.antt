@@ -9,8 +9,7 @@ use Rattle.layout.specs.declared.Layout.{Layout}
 use Rattle.bounds.specs.declared.Bounds.{Bounds}
 use Rattle.blocks.specs.declared.Blocks.{Blocks}
 use Rattle.blocks.specs.Boxes.{box_floats, box_at, stored, spanned, covered}
-use Rattle.blocks.proofs.cover.Statement.{statement}
-use Rattle.blocks.proofs.cover.Tie as tie
+use Rattle.blocks.proofs.cover.Goals as goal
 
 module _ (b : Blocks) (m : Layout) (us vs : List Float) (i j : ℕ) (fs : List Float) where
   boxed : {c w : Bounds} {fs' : List Float} → i / b.size < b.number → c ≡ box_at fs b (i / b.size) → w ≡ spanned m us vs c i j
@@ -22,18 +21,9 @@ module _ (b : Blocks) (m : Layout) (us vs : List Float) (i j : ℕ) (fs : List F
   unfolding covered
   no_box h = rw (le-ltb (i / b.size) b.number h)
 
-returns : tie.Need-returns
-returns c =
-    let s = c.before.before in
-    let g = s.before.before.before in
-    let l = g.before in
-    boxed _ _ _ _ _ _ _ l.before.before.if1.true l.bounds_of.ensures g.spanning.ensures s.store.ensures
+pub returns-then-k-b : goal.returns-then-k-b
+returns-then-k-b c =
+    boxed _ _ _ _ _ _ _ c.if-k-b.true c.bounds_of.ensures c.spanning-wide.ensures c.store.ensures
 
-returns-2 : tie.Need-returns-2
-returns-2 c = no_box _ _ _ _ _ _ _ c.if1.false
-
-pub cover-spec : {M : Type 1} → statement M
-cover-spec =
-    tie.close
-    (tie.spec (λ c. search rules) (λ c κs. search rules) (λ c κs. search rules) (λ c. search rules) (λ c. search rules) (λ c κs. search rules) (λ c. search rules)
-    returns returns-2)
+pub returns-else-k-b : goal.returns-else-k-b
+returns-else-k-b c = no_box _ _ _ _ _ _ _ c.if-k-b.false

@@ -9,8 +9,7 @@ use Rattle.layout.specs.declared.Layout.{Layout}
 use Rattle.links.specs.Words.{next_at}
 use Rattle.blocks.specs.declared.Blocks.{Blocks}
 use Rattle.blocks.specs.Boxes.{covered, covered_from}
-use Rattle.blocks.proofs.cover_from.Statement.{statement}
-use Rattle.blocks.proofs.cover_from.Tie as tie
+use Rattle.blocks.proofs.cover_from.Goals as goal
 
 module _ (b : Blocks) (m : Layout) (us vs : List Float) (ws : List ℕ) (i : ℕ) (fs : List Float) {j : ℕ} (e : j ≡ next_at ws m i) where
   one : {fs' : List Float} → j < m.points → fs' ≡ covered b m us vs i j fs → fs' ≡ covered_from b m us vs ws i fs
@@ -21,14 +20,9 @@ module _ (b : Blocks) (m : Layout) (us vs : List Float) (ws : List ℕ) (i : ℕ
   unfolding covered_from
   none h = rw (← e, le-ltb j m.points h)
 
-returns : tie.Need-returns
-returns c =
-    let v = c.before.before in
-    let t = v.before.before in
-    one _ _ _ _ _ _ _ t.before.before.next.ensures t.if1.true v.cover.ensures
+pub returns-then-j-m : goal.returns-then-j-m
+returns-then-j-m c =
+    one _ _ _ _ _ _ _ c.next-j.ensures c.if-j-m.true c.cover.ensures
 
-returns-2 : tie.Need-returns-2
-returns-2 c = none _ _ _ _ _ _ _ c.before.before.next.ensures c.if1.false
-
-pub cover-from-spec : {M : Type 1} → statement M
-cover-from-spec = tie.close (tie.spec (λ c κs. search rules) (λ c. search rules) (λ c κs. search rules) (λ c. search rules) returns returns-2)
+pub returns-else-j-m : goal.returns-else-j-m
+returns-else-j-m c = none _ _ _ _ _ _ _ c.next-j.ensures c.if-j-m.false
