@@ -31,9 +31,9 @@ def below(name, crates):
     return found
 
 
-def words(name, crates, rlib, kit):
+def words(name, crates, rlib, kit, root="src/lib.rt"):
     """What `rattle check` and `rattle build` are told of a crate, in its folder. rlib gives a library of the repository as it was built."""
-    found = ["--crate-name", name, "src/lib.rt", "--extern", f"std={kit}/rlibs/std.rlib", "-L", f"dependency={kit}/rlibs"]
+    found = ["--crate-name", name, root, "--extern", f"std={kit}/rlibs/std.rlib", "-L", f"dependency={kit}/rlibs"]
     for dep in crates[name]:
         found += ["--extern", f"{dep}={rlib(dep) if dep in crates else f'{kit}/rlibs/{dep}.rlib'}"]
     for dep in below(name, crates):
