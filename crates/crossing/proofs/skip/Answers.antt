@@ -11,8 +11,7 @@ use Rattle.bounds.specs.Bounds.{apart}
 use Rattle.blocks.specs.declared.Blocks.{Blocks}
 use Rattle.blocks.specs.Boxes.{box_at}
 use Rattle.crossing.specs.Passing.{SkipIs}
-use Rattle.crossing.proofs.skip.Statement.{statement}
-use Rattle.crossing.proofs.skip.Tie as tie
+use Rattle.crossing.proofs.skip.Goals as goal
 
 module _ (fs : List Float) (b : Blocks) (k : ℕ) (new : Bounds) (from end : ℕ) where
   behind : end ≤ from → SkipIs fs b k new from end from
@@ -28,25 +27,16 @@ module _ (fs : List Float) (b : Blocks) (k : ℕ) (new : Bounds) (from end : ℕ
     box_near : a ≡ false → SkipIs fs b k new from end from
     box_near g = record { to = rw (lt-ltb from end h, lt-ltb k b.number l, ← e, ← f, g) }
 
-returns : tie.Need-returns
-returns c = behind _ _ _ _ _ _ c.if1.true
+pub returns-then-end-from : goal.returns-then-end-from
+returns-then-end-from c = behind _ _ _ _ _ _ c.if-end-from.true
 
-returns-2 : tie.Need-returns-2
-returns-2 c = no_box _ _ _ _ _ _ c.before.before.if1.false c.if2.true
+pub returns-then-b-k : goal.returns-then-b-k
+returns-then-b-k c = no_box _ _ _ _ _ _ c.if-end-from.false c.if-b-k.true
 
-returns-3 : tie.Need-returns-3
-returns-3 c =
-    let a = c.before in
-    let o = a.before in
-    let e = o.before in
-    box_apart _ _ _ _ _ _ e.before.before.if1.false e.if2.false o.bounds_of.ensures a.apart.ensures c.if3.true
+pub returns-then-apart : goal.returns-then-apart
+returns-then-apart c =
+    box_apart _ _ _ _ _ _ c.if-end-from.false c.if-b-k.false c.bounds_of-old.ensures c.apart.ensures c.if-apart.true
 
-returns-4 : tie.Need-returns-4
-returns-4 c =
-    let a = c.before in
-    let o = a.before in
-    let e = o.before in
-    box_near _ _ _ _ _ _ e.before.before.if1.false e.if2.false o.bounds_of.ensures a.apart.ensures c.if3.false
-
-pub skip-spec : {M : Type 1} → statement M
-skip-spec = tie.close (tie.spec returns returns-2 (λ c κs. search rules) (λ c κs. search rules) returns-3 returns-4)
+pub returns : goal.returns
+returns c =
+    box_near _ _ _ _ _ _ c.if-end-from.false c.if-b-k.false c.bounds_of-old.ensures c.apart.ensures c.if-apart.false
