@@ -1,7 +1,6 @@
 -- `remove_repeated_points::remove_repeated_points_anywhere` meets its contract. Assumes nothing.
 use native.Mathlib.Omega.{arith}
 use lib.ListN.{length}
-use borrow.Author.Rules.{rules}
 use Rattle.rule.specs.Sizes.{most_points}
 use Rattle.rule.specs.Grid.{points}
 use Rattle.rule.specs.Repeat.{anywhere}
@@ -10,18 +9,13 @@ use Rattle.lent.proofs.Rows.{repeat_fine}
 use Rattle.remove_repeated_points.specs.Back.{all_new}
 use Rattle.remove_repeated_points.proofs.News.{anywhere_is}
 use Rattle.remove_repeated_points.proofs.Calls.{same_call}
-use Rattle.remove_repeated_points.proofs.remove_repeated_points_anywhere.Statement.{statement}
-use Rattle.remove_repeated_points.proofs.remove_repeated_points_anywhere.Tie as tie
+use Rattle.remove_repeated_points.proofs.remove_repeated_points_anywhere.Goals as goal
 
-returns : tie.Need-returns
+pub returns : goal.returns
 returns c =
-    let k = c.before.before in
-    let a = k.before.before.before.before.before.args in
+    let a = c.args in
     let us = a.x.now in
     let vs = a.y.now in
     same_call (all_new most_points) anywhere us vs a.out.now
     (λ z. let f = repeat_fine us vs (length a.out.now) z in anywhere_is most_points (points us vs) (omega (arith, f.few, length_points f)))
-    k.keep-new.ensures
-
-pub remove-repeated-points-anywhere-spec : {M : Type 1} → statement M
-remove-repeated-points-anywhere-spec = tie.close (tie.spec (λ c κs. search rules) (λ c. search rules) returns)
+    c.keep_new.ensures
