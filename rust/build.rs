@@ -28,7 +28,7 @@ fn main() {
     println!("cargo:rustc-link-lib=static=pylonfrith");
 }
 
-/// Where `rt staticlib pylonfrith` and `tools/arm64 pylonfrith` write it.
+/// Where `tools/staticlib pylonfrith` and `tools/arm64 pylonfrith` write it.
 fn default_archive() -> PathBuf {
     let folder = match env::var("CARGO_CFG_TARGET_ARCH").as_deref() {
         Ok("x86_64") => "staticlib",

@@ -3,3 +3,5 @@ pub mod Stored
 pub mod Made
 pub mod Kept
 pub mod Row
+mod Clearing
+mod Covering

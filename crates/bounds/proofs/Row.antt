@@ -1,7 +1,7 @@
 -- Bounds computed at values that an f64 has. It pins the definitions. Assumes nothing.
 use mathlib.Core.Path.{◌≡◌, refl}
-use mathlib.Core.Bool.{Bool, true, false}
-use mathlib.Core.List.{List, [], ◌∷◌, map}
+use mathlib.Core.Bool.{true, false}
+use mathlib.Core.List.{[], ◌∷◌, map}
 use Prim.Native.Nat.{ℕ, ◌*◌}
 use lib.Ieee.{Float, neg, le, lt, eq, odd}
 use Rattle.rule.specs.Grid.{half}

@@ -1,5 +1,5 @@
 -- Bounds hold what they were widened by, and segments within bounds that lie apart do not meet. Assumes nothing.
-use mathlib.Core.Path.{◌≡◌, refl, sym, ap, ◌∙◌}
+use mathlib.Core.Path.{◌≡◌, refl, sym, ◌∙◌}
 use mathlib.Core.Bool.{Bool, true, false, not, cond, ◌&&◌, ◌||◌, true≢false, false≢true, and-false}
 use lib.Dec.{T}
 use lib.IntN.{ℤ}

@@ -1,5 +1,5 @@
 -- The least and the greatest coordinates of some points. Assumes nothing.
-use Rattle.std.specs.Prelude.{◌≡◌, Bool, true, false, not, cond, ◌||◌, ◌*◌, Float}
+use Rattle.std.specs.Prelude.{◌≡◌, Bool, true, not, cond, ◌||◌, ◌*◌, Float}
 use Rattle.std.specs.Int.Signed.{le_z}
 use Rattle.std.specs.Float.Ieee.{neg, le}
 use Rattle.rule.specs.Sizes.{reach}

@@ -57,6 +57,7 @@ impl Bounds {
     }
 }
 
+#[tactic(auto, unfolding(crate::specs::Bounds::lesser))]
 fn lesser(u: f64, v: f64) -> f64
     ensures { result ≡ lesser u v }
 {
@@ -66,6 +67,7 @@ fn lesser(u: f64, v: f64) -> f64
     v
 }
 
+#[tactic(auto, unfolding(crate::specs::Bounds::greater))]
 fn greater(u: f64, v: f64) -> f64
     ensures { result ≡ greater u v }
 {

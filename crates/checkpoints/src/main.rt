@@ -3,219 +3,223 @@
 #![tactic(auto)]
 
 use rule::{PointIndex, Reason, Slot, SlotNumber};
+use std::io;
 use vscore::VScore;
 
-fn main() {
-    grid_cases();
-    area_cases();
-    largest_cases();
-    above_cases();
-    score_cases();
-    reason_cases();
-    slot_cases();
+fn main(rt: HostRuntime) -> io::Result<()> {
+    grid_cases(&rt)?;
+    area_cases(&rt)?;
+    largest_cases(&rt)?;
+    above_cases(&rt)?;
+    score_cases(&rt)?;
+    reason_cases(&rt)?;
+    slot_cases(&rt)
 }
 
-fn grid_cases() {
-    on_grid(0.0);
-    on_grid(-0.0);
-    on_grid(1.0);
-    on_grid(-1.0);
-    on_grid(0.5);
-    on_grid(-0.5);
-    on_grid(16777215.0);
-    on_grid(16777215.5);
-    on_grid(16777216.0);
-    on_grid(-16777216.0);
-    on_grid(16777216.000000004);
-    on_grid(16777217.0);
-    on_grid(-16777217.0);
-    on_grid(16777218.0);
-    on_grid(9007199254740992.0);
-    on_grid(9223372036854775808.0);
-    on_grid(-9223372036854775808.0);
-    on_grid(5e-324);
-    on_grid(-2.2250738585072014e-308);
-    on_grid(1.7976931348623157e308);
-    on_grid(1.0 / 0.0);
-    on_grid(-1.0 / 0.0);
-    on_grid(0.0 / 0.0);
+fn grid_cases(rt: &impl Print) -> io::Result<()> {
+    on_grid(rt, 0.0)?;
+    on_grid(rt, -0.0)?;
+    on_grid(rt, 1.0)?;
+    on_grid(rt, -1.0)?;
+    on_grid(rt, 0.5)?;
+    on_grid(rt, -0.5)?;
+    on_grid(rt, 16777215.0)?;
+    on_grid(rt, 16777215.5)?;
+    on_grid(rt, 16777216.0)?;
+    on_grid(rt, -16777216.0)?;
+    on_grid(rt, 16777216.000000004)?;
+    on_grid(rt, 16777217.0)?;
+    on_grid(rt, -16777217.0)?;
+    on_grid(rt, 16777218.0)?;
+    on_grid(rt, 9007199254740992.0)?;
+    on_grid(rt, 9223372036854775808.0)?;
+    on_grid(rt, -9223372036854775808.0)?;
+    on_grid(rt, 5e-324)?;
+    on_grid(rt, -2.2250738585072014e-308)?;
+    on_grid(rt, 1.7976931348623157e308)?;
+    on_grid(rt, 1.0 / 0.0)?;
+    on_grid(rt, -1.0 / 0.0)?;
+    on_grid(rt, 0.0 / 0.0)
 }
 
-fn area_cases() {
-    area(0.0, 0.0, 4.0, 0.0, 0.0, 3.0);
-    area(0.0, 0.0, 0.0, 3.0, 4.0, 0.0);
-    area(5.0, 2.0, 3.0, 8.0, 7.0, 25.0);
-    area(3.0, 8.0, 6.0, 20.0, 7.0, 25.0);
-    area(0.0, 0.0, 1.0, 1.0, 2.0, 1.0);
+fn area_cases(rt: &impl Print) -> io::Result<()> {
+    area(rt, 0.0, 0.0, 4.0, 0.0, 0.0, 3.0)?;
+    area(rt, 0.0, 0.0, 0.0, 3.0, 4.0, 0.0)?;
+    area(rt, 5.0, 2.0, 3.0, 8.0, 7.0, 25.0)?;
+    area(rt, 3.0, 8.0, 6.0, 20.0, 7.0, 25.0)?;
+    area(rt, 0.0, 0.0, 1.0, 1.0, 2.0, 1.0)?;
     // flat, where the cross product comes out as -0.0
-    area(0.0, 0.0, -1.0, 0.0, 0.0, 0.0);
-    area(0.0, 0.0, 0.0, -1.0, 0.0, 0.0);
-    area(-0.0, -0.0, -0.0, -0.0, -0.0, -0.0);
-    area(0.0, 0.0, 1.0, 1.0, 2.0, 2.0);
+    area(rt, 0.0, 0.0, -1.0, 0.0, 0.0, 0.0)?;
+    area(rt, 0.0, 0.0, 0.0, -1.0, 0.0, 0.0)?;
+    area(rt, -0.0, -0.0, -0.0, -0.0, -0.0, -0.0)?;
+    area(rt, 0.0, 0.0, 1.0, 1.0, 2.0, 2.0)
 }
 
-fn largest_cases() {
+fn largest_cases(rt: &impl Print) -> io::Result<()> {
     // 2^49
     area(
+        rt,
         -16777216.0,
         -16777216.0,
         16777216.0,
         -16777216.0,
         16777216.0,
         16777216.0,
-    );
+    )?;
     area(
+        rt,
         -16777216.0,
         -16777216.0,
         -16777216.0,
         16777216.0,
         16777216.0,
         16777216.0,
-    );
+    )?;
     area(
+        rt,
         -16777216.0,
         -16777216.0,
         16777216.0,
         16777216.0,
         16777215.0,
         16777215.0,
-    );
+    )?;
     // a little less
     area(
+        rt,
         -16777216.0,
         -16777216.0,
         16777216.0,
         -16777215.0,
         16777215.0,
         16777216.0,
-    );
+    )
 }
 
-fn above_cases() {
-    above(29.0, 30.0);
-    above(29.0, 29.0);
-    above(29.0, 28.5);
-    above(29.0, 28.999999999999996);
-    above(0.0, 0.0);
-    above(0.0, -0.0);
-    above(0.0, -5e-324);
-    above(0.5, 5e-324);
-    above(669.0, 668.6);
-    above(668.5, 668.6);
-    above(562949953421312.0, 562949953421312.0);
-    above(562949953421312.0, 562949953421311.94);
-    above(562949953421312.0, 1.7976931348623157e308);
+fn above_cases(rt: &impl Print) -> io::Result<()> {
+    above(rt, 29.0, 30.0)?;
+    above(rt, 29.0, 29.0)?;
+    above(rt, 29.0, 28.5)?;
+    above(rt, 29.0, 28.999999999999996)?;
+    above(rt, 0.0, 0.0)?;
+    above(rt, 0.0, -0.0)?;
+    above(rt, 0.0, -5e-324)?;
+    above(rt, 0.5, 5e-324)?;
+    above(rt, 669.0, 668.6)?;
+    above(rt, 668.5, 668.6)?;
+    above(rt, 562949953421312.0, 562949953421312.0)?;
+    above(rt, 562949953421312.0, 562949953421311.94)?;
+    above(rt, 562949953421312.0, 1.7976931348623157e308)
 }
 
-fn score_cases() {
+fn score_cases(rt: &impl Print) -> io::Result<()> {
     let small = VScore::new(0, 1, 2, 1.5);
     let level = VScore::new(1, 2, 3, 1.5);
     let large = VScore::new(2, 3, 4, 2.0);
     let flat = VScore::new(3, 4, 5, 0.0);
-    sooner(small, large);
-    sooner(large, small);
-    sooner(small, level);
-    sooner(level, small);
-    sooner(small, small);
-    sooner(flat, small);
+    sooner(rt, small, large)?;
+    sooner(rt, large, small)?;
+    sooner(rt, small, level)?;
+    sooner(rt, level, small)?;
+    sooner(rt, small, small)?;
+    sooner(rt, flat, small)?;
     // demoted at the least tolerance above zero, and at a large one: before every area, flat ones too
-    sooner(large.demoted(5e-324), flat);
-    sooner(flat, large.demoted(5e-324));
-    sooner(large.demoted(1.7976931348623157e308), flat);
-    sooner(large.demoted(2.0), small.demoted(2.0));
-    sooner(small.demoted(2.0), large.demoted(2.0));
+    sooner(rt, large.demoted(5e-324), flat)?;
+    sooner(rt, flat, large.demoted(5e-324))?;
+    sooner(rt, large.demoted(1.7976931348623157e308), flat)?;
+    sooner(rt, large.demoted(2.0), small.demoted(2.0))?;
+    sooner(rt, small.demoted(2.0), large.demoted(2.0))
 }
 
-fn reason_cases() {
-    reason(Reason::LengthsDiffer);
-    reason(Reason::TooManyPoints);
-    reason(Reason::OffGrid(PointIndex(0)));
-    reason(Reason::OffGrid(PointIndex(4095)));
-    reason(Reason::ToleranceNotFinite);
-    reason(Reason::RingTable);
-    reason(Reason::RingNotClosed);
-    reason(Reason::OutputShort);
-    reason(Reason::MemoryShort);
-    reason(Reason::NoSuchSlot);
-    reason(Reason::SlotIsOpen);
-    reason(Reason::SlotNotOpen);
+fn reason_cases(rt: &impl Print) -> io::Result<()> {
+    reason(rt, Reason::LengthsDiffer)?;
+    reason(rt, Reason::TooManyPoints)?;
+    reason(rt, Reason::OffGrid(PointIndex(0)))?;
+    reason(rt, Reason::OffGrid(PointIndex(4095)))?;
+    reason(rt, Reason::ToleranceNotFinite)?;
+    reason(rt, Reason::RingTable)?;
+    reason(rt, Reason::RingNotClosed)?;
+    reason(rt, Reason::OutputShort)?;
+    reason(rt, Reason::MemoryShort)?;
+    reason(rt, Reason::NoSuchSlot)?;
+    reason(rt, Reason::SlotIsOpen)?;
+    reason(rt, Reason::SlotNotOpen)
 }
 
-fn slot_cases() {
-    part(SlotNumber(0));
-    part(SlotNumber(1));
-    part(SlotNumber(7));
-    part(SlotNumber(8));
-    part(SlotNumber(4294967295));
+fn slot_cases(rt: &impl Print) -> io::Result<()> {
+    part(rt, SlotNumber(0))?;
+    part(rt, SlotNumber(1))?;
+    part(rt, SlotNumber(7))?;
+    part(rt, SlotNumber(8))?;
+    part(rt, SlotNumber(4294967295))
 }
 
-fn on_grid(v: f64) {
-    io::write_all(1, b"on_grid");
-    float(v);
-    yes(grid::on_grid(v));
+fn on_grid(rt: &impl Print, v: f64) -> io::Result<()> {
+    print!(rt; "on_grid")?;
+    float(rt, v)?;
+    yes(rt, grid::on_grid(v))
 }
 
-fn area(ax: f64, ay: f64, bx: f64, by: f64, cx: f64, cy: f64) {
-    io::write_all(1, b"area");
-    float(grid::area(ax, ay, bx, by, cx, cy));
-    io::write_all(1, b"\n");
+fn area(rt: &impl Print, ax: f64, ay: f64, bx: f64, by: f64, cx: f64, cy: f64) -> io::Result<()> {
+    print!(rt; "area")?;
+    float(rt, grid::area(ax, ay, bx, by, cx, cy))?;
+    println!(rt; "")
 }
 
-fn above(a: f64, t: f64) {
-    io::write_all(1, b"above");
-    float(a);
-    float(t);
-    yes(grid::above(a, t));
+fn above(rt: &impl Print, a: f64, t: f64) -> io::Result<()> {
+    print!(rt; "above")?;
+    float(rt, a)?;
+    float(rt, t)?;
+    yes(rt, grid::above(a, t))
 }
 
-fn sooner(s: VScore, u: VScore) {
-    io::write_all(1, b"sooner");
-    score(s);
-    score(u);
-    yes(s.sooner(u));
+fn sooner(rt: &impl Print, s: VScore, u: VScore) -> io::Result<()> {
+    print!(rt; "sooner")?;
+    score(rt, s)?;
+    score(rt, u)?;
+    yes(rt, s.sooner(u))
 }
 
-fn score(s: VScore) {
-    count(s.left as u64);
-    count(s.current as u64);
-    count(s.right as u64);
-    float(s.area);
+fn score(rt: &impl Print, s: VScore) -> io::Result<()> {
+    count(rt, s.left as u64)?;
+    count(rt, s.current as u64)?;
+    count(rt, s.right as u64)?;
+    float(rt, s.area)
 }
 
-fn reason(w: Reason) {
-    io::write_all(1, b"reason");
-    count(numbered::number(w) as u64);
-    count(numbered::place(w) as u64);
-    io::write_all(1, b"\n");
+fn reason(rt: &impl Print, w: Reason) -> io::Result<()> {
+    print!(rt; "reason")?;
+    count(rt, numbered::number(w) as u64)?;
+    count(rt, numbered::place(w) as u64)?;
+    println!(rt; "")
 }
 
-fn part(k: SlotNumber) {
+fn part(rt: &impl Print, k: SlotNumber) -> io::Result<()> {
     let at = Slot::new(k);
-    io::write_all(1, b"part");
-    count(at.floats as u64);
-    count(at.words as u64);
-    io::write_all(1, b"\n");
+    print!(rt; "part")?;
+    count(rt, at.floats as u64)?;
+    count(rt, at.words as u64)?;
+    println!(rt; "")
 }
 
-fn yes(b: bool) {
+fn yes(rt: &impl Print, b: bool) -> io::Result<()> {
     if b {
-        io::write_all(1, b" yes\n");
+        println!(rt; " yes")
     } else {
-        io::write_all(1, b" no\n");
+        println!(rt; " no")
     }
 }
 
 // A space and then a number; a float by its 64 bits.
-fn float(v: f64) {
-    io::write_all(1, b" ");
+fn float(rt: &impl Print, v: f64) -> io::Result<()> {
     if v == v {
-        io::print_hex(1, bits::of(v), 16);
+        let pattern = bits::of(v);
+        print!(rt; " {pattern:016x}")
     } else {
-        io::write_all(1, b"nan");
+        print!(rt; " nan")
     }
 }
 
-fn count(n: u64) {
-    io::write_all(1, b" ");
-    io::print_decimal(1, n);
+fn count(rt: &impl Print, n: u64) -> io::Result<()> {
+    print!(rt; " {n}")
 }

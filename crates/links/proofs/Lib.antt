@@ -6,3 +6,4 @@ pub mod Memory
 pub mod Rings
 pub mod Listing
 pub mod Tests
+mod Turns

@@ -9,6 +9,7 @@ ghost use Rattle.layout.specs.Points.{HasPoints};
 
 use layout::Layout;
 use rule::{Line, Scratch};
+use std::io;
 use thin::Stepped;
 
 // The points are drawn from a square of so many a side.
@@ -38,15 +39,15 @@ struct Order {
     sum: u64,
 }
 
-fn main() {
+fn main(rt: HostRuntime) -> io::Result<()> {
     let mut x = [0.0; 4096];
     let mut y = [0.0; 4096];
     let mut floats = [0.0; 12288];
     let mut words = [0u32; 49152];
     draw(&mut x, &mut y);
     let made = remove_all(&x, &y, &mut floats, &mut words);
-    print(b"removals ", made.removals);
-    print(b"order ", made.sum);
+    print(&rt, "removals", made.removals)?;
+    print(&rt, "order", made.sum)
 }
 
 fn draw(x: &mut [f64], y: &mut [f64]) {
@@ -127,8 +128,6 @@ fn fold(sum: u64, next: u64) -> u64 {
     (sum % PRIME * BASE + next % PRIME) % PRIME
 }
 
-fn print(name: &[u8], n: u64) {
-    io::write_all(1, name);
-    io::print_decimal(1, n);
-    io::write_all(1, b"\n");
+fn print(rt: &impl Print, name: &str, n: u64) -> io::Result<()> {
+    println!(rt; "{name} {n}")
 }

@@ -3,3 +3,4 @@ pub mod Holding
 pub mod Filling
 pub mod Listing
 pub mod Advancing
+mod Copying

@@ -6,9 +6,11 @@
 // tools/expect-scripts plays the script on a model of document 01, and so works out what must be printed.
 #![tactic(auto)]
 
-ghost use Rattle.std.specs.Prelude.{◌≡◌, length};
+ghost use Rattle.std.specs.Prelude.{◌≡◌, ◌≤◌, length, IfOk};
 
 use rule::{Listing, Outcome, Reason, SlotNumber, Step, WorkArea};
+use std::io;
+use std::io::{Read, Write};
 
 // Every word has its numbers past this place, and the fourth letter tells the words apart.
 const NUMBERS: usize = 5;
@@ -31,15 +33,36 @@ struct Opening {
     next: usize,
 }
 
-fn main() {
-    let mut text = io::large_buffer();
+fn main(rt: HostRuntime) -> io::Result<()> {
+    let mut text = room();
     let mut floats = area_floats();
     let mut words = area_words();
-    let n = io::read_full(0, &mut text);
-    play(&text[..n], &mut floats, &mut words);
+    let n = read_full(&mut rt.stdin(), &mut text)?;
+    play(&rt, &text[..n], &mut floats, &mut words)
 }
 
-// Each `ensures` gives only the length, which lending the array as a slice needs.
+// Reads until there is no more room or no more input, and gives how many bytes there are.
+fn read_full(from: &mut impl Read, into: &mut [u8]) -> io::Result<usize>
+    ensures { IfOk result (λ n. n ≤ length into.new) }
+{
+    let mut done = 0;
+    while done < into.len() {
+        let n = from.read(&mut into[done..])?;
+        if n == 0 {
+            break;
+        }
+        done += n;
+    }
+    Ok(done)
+}
+
+// For the whole script. Each `ensures` gives only the length, which lending the array as a slice needs.
+fn room() -> [u8; 65536]
+    ensures { 65536 ≡ length result }
+{
+    [0; 65536]
+}
+
 fn area_floats() -> [f64; 163841]
     ensures { 163841 ≡ length result }
 {
@@ -59,7 +82,7 @@ fn coordinates() -> [f64; 8194]
     [0.0; 8194]
 }
 
-fn play(text: &[u8], floats: &mut [f64], words: &mut [u32]) {
+fn play(rt: &impl Print, text: &[u8], floats: &mut [f64], words: &mut [u32]) -> io::Result<()> {
     let mut lent = Lent {
         floats: 163841,
         words: 393345,
@@ -67,21 +90,28 @@ fn play(text: &[u8], floats: &mut [f64], words: &mut [u32]) {
     let mut at = 0;
     while at < text.len() {
         let next = numbers::next_line(text, at);
-        lent = play_line(&text[at..next], lent, floats, words);
+        lent = play_line(rt, &text[at..next], lent, floats, words)?;
         at = next;
     }
+    Ok(())
 }
 
-fn play_line(line: &[u8], lent: Lent, floats: &mut [f64], words: &mut [u32]) -> Lent {
+fn play_line(
+    rt: &impl Print,
+    line: &[u8],
+    lent: Lent,
+    floats: &mut [f64],
+    words: &mut [u32],
+) -> io::Result<Lent> {
     let letter = kind(line);
     if !is_call(letter) {
-        return note(line, letter, lent, floats, words);
+        return note(rt, line, letter, lent, floats, words);
     }
     let f = numbers::least(lent.floats, floats.len());
     let w = numbers::least(lent.words, words.len());
-    call(line, letter, &mut floats[..f], &mut words[..w]);
-    end();
-    lent
+    call(rt, line, letter, &mut floats[..f], &mut words[..w])?;
+    end(rt)?;
+    Ok(lent)
 }
 
 // What a line is: a title, or a word that its letter tells.
@@ -100,16 +130,23 @@ fn is_call(letter: u8) -> bool {
 }
 
 // A title and what is lent from here on are printed as they stand.
-fn note(line: &[u8], letter: u8, lent: Lent, floats: &[f64], words: &[u32]) -> Lent {
+fn note(
+    rt: &impl Print,
+    line: &[u8],
+    letter: u8,
+    lent: Lent,
+    floats: &[f64],
+    words: &[u32],
+) -> io::Result<Lent> {
     if letter == b'e' {
-        edge(floats, words);
-        return lent;
+        edge(rt, floats, words)?;
+        return Ok(lent);
     }
-    io::write_all(1, line);
+    io::writer(rt).write_all(line)?;
     if letter == b't' {
-        return read_lent(line);
+        return Ok(read_lent(line));
     }
-    lent
+    Ok(lent)
 }
 
 fn read_lent(line: &[u8]) -> Lent {
@@ -122,20 +159,24 @@ fn read_lent(line: &[u8]) -> Lent {
 }
 
 // Prints the line as far as the slot, and then the answer.
-fn call(line: &[u8], letter: u8, floats: &mut [f64], words: &mut [u32]) {
+fn call(
+    rt: &impl Print,
+    line: &[u8],
+    letter: u8,
+    floats: &mut [f64],
+    words: &mut [u32],
+) -> io::Result<()> {
     let read = numbers::read_number(line, NUMBERS);
     let at = read.next;
     let slot = SlotNumber(numbers::narrow(read.value));
-    print_until(line, at);
+    print_until(rt, line, at)?;
     if letter == b'p' {
-        step(slot, floats, words);
-        return;
+        return step(rt, slot, floats, words);
     }
     if letter == b'd' {
-        read_slot(line, at, slot, floats, words);
-        return;
+        return read_slot(rt, line, at, slot, floats, words);
     }
-    outcome(change(line, letter, at, slot, floats, words));
+    outcome(rt, change(line, letter, at, slot, floats, words))
 }
 
 // The calls that give no more than an outcome.
@@ -156,19 +197,20 @@ fn change(
     open(line, at, slot, floats, words)
 }
 
-fn step(slot: SlotNumber, floats: &mut [f64], words: &mut [u32]) {
+fn step(
+    rt: &impl Print,
+    slot: SlotNumber,
+    floats: &mut [f64],
+    words: &mut [u32],
+) -> io::Result<()> {
     match slots::step(floats, words, slot) {
         Step::Removed(point, area) => {
-            io::write_all(1, b" removed");
-            word(point.0);
-            float(area);
+            print!(rt; " removed")?;
+            word(rt, point.0)?;
+            float(rt, area)
         }
-        Step::Finished => {
-            io::write_all(1, b" finished");
-        }
-        Step::Refused(reason) => {
-            refused(reason);
-        }
+        Step::Finished => print!(rt; " finished"),
+        Step::Refused(reason) => refused(rt, reason),
     }
 }
 
@@ -218,84 +260,97 @@ fn read_opening(line: &[u8], at: usize) -> Opening {
 }
 
 // With as many places for the indices as the line says, nine at most.
-fn read_slot(line: &[u8], at: usize, slot: SlotNumber, floats: &[f64], words: &[u32]) {
+fn read_slot(
+    rt: &impl Print,
+    line: &[u8],
+    at: usize,
+    slot: SlotNumber,
+    floats: &[f64],
+    words: &[u32],
+) -> io::Result<()> {
     let mut out = [99; 9];
     let places = numbers::read_number(line, at);
     let n = numbers::least(numbers::narrow(places.value), 9);
-    read_into(slot, floats, words, &mut out[..n]);
+    read_into(rt, slot, floats, words, &mut out[..n])
 }
 
-fn read_into(slot: SlotNumber, floats: &[f64], words: &[u32], out: &mut [u32]) {
-    match slots::read(floats, words, slot, out) {
+fn read_into(
+    rt: &impl Print,
+    slot: SlotNumber,
+    floats: &[f64],
+    words: &[u32],
+    out: &mut [u32],
+) -> io::Result<()> {
+    listing(rt, slots::read(floats, words, slot, out))?;
+    print!(rt; ":")?;
+    all(rt, out)
+}
+
+fn listing(rt: &impl Print, answer: Listing) -> io::Result<()> {
+    match answer {
         Listing::Listed(count) => {
-            io::write_all(1, b" listed");
-            word(count);
+            print!(rt; " listed")?;
+            word(rt, count)
         }
-        Listing::Refused(reason) => {
-            refused(reason);
-        }
+        Listing::Refused(reason) => refused(rt, reason),
     }
-    io::write_all(1, b":");
-    all(out);
 }
 
-fn edge(floats: &[f64], words: &[u32]) {
-    io::write_all(1, b"edge");
-    place(floats, words, WorkArea::FLOATS - 1, WorkArea::WORDS - 1);
-    place(floats, words, WorkArea::FLOATS, WorkArea::WORDS);
-    end();
+fn edge(rt: &impl Print, floats: &[f64], words: &[u32]) -> io::Result<()> {
+    print!(rt; "edge")?;
+    place(rt, floats, words, WorkArea::FLOATS - 1, WorkArea::WORDS - 1)?;
+    place(rt, floats, words, WorkArea::FLOATS, WorkArea::WORDS)?;
+    end(rt)
 }
 
-fn place(floats: &[f64], words: &[u32], f: usize, w: usize) {
+fn place(rt: &impl Print, floats: &[f64], words: &[u32], f: usize, w: usize) -> io::Result<()> {
     if f < floats.len() {
-        float(floats[f]);
+        float(rt, floats[f])?;
     }
     if w < words.len() {
-        word(words[w]);
+        word(rt, words[w])?;
     }
+    Ok(())
 }
 
-fn outcome(answer: Outcome) {
+fn outcome(rt: &impl Print, answer: Outcome) -> io::Result<()> {
     match answer {
-        Outcome::Done => {
-            io::write_all(1, b" done");
-        }
-        Outcome::Refused(reason) => {
-            refused(reason);
-        }
+        Outcome::Done => print!(rt; " done"),
+        Outcome::Refused(reason) => refused(rt, reason),
     }
 }
 
 // A reason's number, and the place that comes with it.
-fn refused(reason: Reason) {
-    io::write_all(1, b" refused");
-    word(numbered::number(reason));
-    word(numbered::place(reason));
+fn refused(rt: &impl Print, reason: Reason) -> io::Result<()> {
+    print!(rt; " refused")?;
+    word(rt, numbered::number(reason))?;
+    word(rt, numbered::place(reason))
 }
 
-fn print_until(line: &[u8], end: usize) {
+fn print_until(rt: &impl Print, line: &[u8], end: usize) -> io::Result<()> {
     if end <= line.len() {
-        io::write_all(1, &line[..end]);
+        io::writer(rt).write_all(&line[..end])?;
     }
+    Ok(())
 }
 
-fn all(out: &[u32]) {
+fn all(rt: &impl Print, out: &[u32]) -> io::Result<()> {
     for i in 0..out.len() {
-        word(out[i]);
+        word(rt, out[i])?;
     }
+    Ok(())
 }
 
-fn word(n: u32) {
-    io::write_all(1, b" ");
-    io::print_decimal(1, n as u64);
+fn word(rt: &impl Print, n: u32) -> io::Result<()> {
+    print!(rt; " {n}")
 }
 
-fn end() {
-    io::write_all(1, b"\n");
+fn end(rt: &impl Print) -> io::Result<()> {
+    println!(rt; "")
 }
 
 // By its bits. None that is printed is a NaN.
-fn float(v: f64) {
-    io::write_all(1, b" ");
-    io::print_hex(1, bits::of(v), 16);
+fn float(rt: &impl Print, v: f64) -> io::Result<()> {
+    let pattern = bits::of(v);
+    print!(rt; " {pattern:016x}")
 }

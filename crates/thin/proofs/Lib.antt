@@ -3,3 +3,5 @@ pub mod Candidates
 pub mod Queue
 pub mod Removing
 pub mod Stepping
+mod PickTurns
+mod SeedTurns

@@ -3,7 +3,7 @@ ghost use Rattle.std.specs.Prelude.{◌≡◌, [], ◌∷◌, if◌then◌else�
 ghost use Rattle.numbers.specs.Reading.{past_number, index, past_all, all};
 
 // What is lent to a call, by its length, and the answer.
-#[derive(Drop)]
+#[derive(Clone, Copy)]
 pub struct Vector {
     pub call: u32,
     pub xs: u32,

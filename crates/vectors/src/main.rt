@@ -3,22 +3,41 @@
 // oracle/README.md has the list's format; tools/make-vectors makes the list, and works out from it what must be printed.
 #![tactic(auto)]
 
+ghost use Rattle.std.specs.Prelude.{◌≤◌, length, IfOk};
+
 mod held;
 mod list;
 
 use list::Vector;
 use rule::{Reason, Scratch, Thinned};
+use std::io;
+use std::io::Read;
 
-fn main() {
+fn main(rt: HostRuntime) -> io::Result<()> {
     let mut text = held::text();
-    let n = io::read_full(0, &mut text);
+    let n = read_full(&mut rt.stdin(), &mut text)?;
     let list = &text[..n];
-    replay(list, 1);
-    replay(list, 2);
-    replay(list, 3);
-    replay(list, 4);
-    replay(list, 5);
-    replay(list, 6);
+    replay(&rt, list, 1)?;
+    replay(&rt, list, 2)?;
+    replay(&rt, list, 3)?;
+    replay(&rt, list, 4)?;
+    replay(&rt, list, 5)?;
+    replay(&rt, list, 6)
+}
+
+// Reads until there is no more room or no more input, and gives how many bytes there are.
+fn read_full(from: &mut impl Read, into: &mut [u8]) -> io::Result<usize>
+    ensures { IfOk result (λ n. n ≤ length into.new) }
+{
+    let mut done = 0;
+    while done < into.len() {
+        let n = from.read(&mut into[done..])?;
+        if n == 0 {
+            break;
+        }
+        done += n;
+    }
+    Ok(done)
 }
 
 #[derive(Drop)]
@@ -31,7 +50,7 @@ struct Tally {
 }
 
 // The lines of one call.
-fn replay(text: &[u8], call: u32) {
+fn replay(rt: &impl Print, text: &[u8], call: u32) -> io::Result<()> {
     let mut tally = Tally {
         vectors: 0,
         refused: 0,
@@ -45,7 +64,7 @@ fn replay(text: &[u8], call: u32) {
         tally = replay_line(tally, text, at, line, call);
         at = numbers::next_line(text, at);
     }
-    report(call, tally);
+    report(rt, call, tally)
 }
 
 fn replay_line(t: Tally, text: &[u8], at: usize, line: u64, call: u32) -> Tally {
@@ -273,31 +292,26 @@ fn more(n: u64) -> u64 {
     std::num::wrapping_add_u64(n, 1)
 }
 
-fn report(call: u32, t: Tally) {
-    name(call);
-    io::write_all(1, b": ");
-    io::print_decimal(1, t.vectors);
-    io::write_all(1, b" vectors, ");
-    io::print_decimal(1, t.refused);
-    io::write_all(1, b" of them refused, ");
-    io::print_decimal(1, t.agree);
-    io::write_all(1, b" agree\n");
+fn report(rt: &impl Print, call: u32, t: Tally) -> io::Result<()> {
+    name(rt, call)?;
+    println!(rt;
+        ": {} vectors, {} of them refused, {} agree",
+        t.vectors, t.refused, t.agree
+    )?;
     if t.differs != 0 {
-        io::write_all(1, b"  the first that differs is on line ");
-        io::print_decimal(1, t.differs);
-        io::write_all(1, b"\n");
+        println!(rt; "  the first that differs is on line {}", t.differs)?;
     }
+    Ok(())
 }
 
-// Answers as `write_all` does.
-fn name(call: u32) -> bool {
+fn name(rt: &impl Print, call: u32) -> io::Result<()> {
     match call {
-        1 => io::write_all(1, b"simplify_vw_idx"),
-        2 => io::write_all(1, b"simplify_vw"),
-        3 => io::write_all(1, b"simplify_vw_preserve"),
-        4 => io::write_all(1, b"simplify_vw_preserve_polygon"),
-        5 => io::write_all(1, b"remove_repeated_points"),
-        6 => io::write_all(1, b"remove_repeated_points_anywhere"),
-        _ => io::write_all(1, b"no such call"),
+        1 => print!(rt; "simplify_vw_idx"),
+        2 => print!(rt; "simplify_vw"),
+        3 => print!(rt; "simplify_vw_preserve"),
+        4 => print!(rt; "simplify_vw_preserve_polygon"),
+        5 => print!(rt; "remove_repeated_points"),
+        6 => print!(rt; "remove_repeated_points_anywhere"),
+        _ => print!(rt; "no such call"),
     }
 }

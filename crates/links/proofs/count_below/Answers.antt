@@ -1,0 +1,24 @@
+-- `links::count_below` meets its contract. Assumes nothing.
+use mathlib.Core.Path.{sym, ◌∙◌}
+use mathlib.Core.Logic.{⊎_elim}
+use Prim.Native.Nat.{◌-◌}
+use native.Mathlib.Omega.{arith}
+use borrow.Author.Rules.{rules}
+use Rattle.links.specs.Words.{mark_at}
+use Rattle.links.proofs.Listing.{Counting, counting_start, counting_kept, counting_gone, counting_end, counting_as}
+use Rattle.links.proofs.count_below.Goals as goal
+use Rattle.links.proofs.count_below.Goals.{then-kept, else-kept}
+
+pub loop-i-init : goal.loop-i-init
+loop-i-init c = counting_start _ _
+
+pub loop-i-preserved : goal.loop-i-preserved
+loop-i-preserved c =
+    let s = c.loop-i.invariant in
+    elim c.if-kept.branch [
+      | then-kept w ↦ counting_as w.below-is (counting_kept s c.loop-i-test.true (sym c.kept.ensures ∙ w.if-kept.true))
+      | else-kept w ↦ counting_as w.below-is (counting_gone s c.loop-i-test.true (sym c.kept.ensures ∙ w.if-kept.false))
+    ]
+
+pub returns : goal.returns
+returns c = let s = c.loop-i.invariant in (omega (arith, s.few, s.top), counting_end s c.loop-i-test.false)

@@ -1,0 +1,16 @@
+-- `links::link` meets its contract. Assumes nothing.
+use Prim.Native.Nat.{◌-◌}
+use native.Mathlib.Omega.{arith}
+use borrow.Author.Rules.{rules}
+use Rattle.links.proofs.Turns.{Linking, linking_start, linking_more, linking_end, back_small, ahead_small}
+use Rattle.links.proofs.link.Goals as goal
+
+pub loop-i-init : goal.loop-i-init
+loop-i-init c = let z = c.requires in linking_start z.0 z.2 z.3
+
+pub loop-i-preserved : goal.loop-i-preserved
+loop-i-preserved c =
+    linking_more c.loop-i.invariant c.loop-i-test.true c.point_before-p.ensures c.point_after-q.ensures c.join.ensures
+
+pub returns : goal.returns
+returns c = linking_end c.loop-i.invariant c.loop-i-test.false

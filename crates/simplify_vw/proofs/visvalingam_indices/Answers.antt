@@ -1,0 +1,12 @@
+-- `simplify_vw::visvalingam_indices` meets its contract. Assumes nothing.
+use borrow.Author.Rules.{rules}
+use Rattle.lent.proofs.Points.{runs_fit}
+use Rattle.simplify_vw.proofs.Calls.{keeps_rule}
+use Rattle.simplify_vw.proofs.visvalingam_indices.Goals as goal
+
+pub remove_all-requires : goal.remove_all-requires
+remove_all-requires c = runs_fit c.requires c.scratch-m.ensures
+
+pub returns : goal.returns
+returns c =
+    keeps_rule c.requires c.scratch-m.ensures c.remove_all.ensures c.remove_all.auto.floats c.remove_all.auto.words c.finish.ensures
