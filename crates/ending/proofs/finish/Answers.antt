@@ -1,6 +1,5 @@
 -- `ending::finish` meets its contract. Assumes nothing.
 use native.Mathlib.Omega.{arith}
-use borrow.Author.Rules.{rules}
 use Rattle.ending.proofs.Whole.{few_listed, listed_keeps}
 use Rattle.ending.proofs.finish.Goals as goal
 

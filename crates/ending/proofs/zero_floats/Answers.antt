@@ -1,9 +1,6 @@
 -- `ending::zero_floats` meets its contract. Assumes nothing.
-use Prim.Native.Nat.{◌-◌}
-use native.Mathlib.Omega.{arith}
 use lib.Ieee.{of_bits}
-use Rattle.rule.specs.Area.{zero_float}
-use Rattle.ending.proofs.Zeros.{Zeroed, none_yet, next_zero, all_zero}
+use Rattle.ending.proofs.Zeros.{none_yet, next_zero, all_zero}
 use Rattle.ending.proofs.zero_floats.Goals as goal
 
 pub loop-i-init : goal.loop-i-init

@@ -1,7 +1,5 @@
 -- `ending::zero_words` meets its contract. Assumes nothing.
-use Prim.Native.Nat.{◌-◌}
-use native.Mathlib.Omega.{arith}
-use Rattle.ending.proofs.Zeros.{Zeroed, none_yet, next_zero, all_zero}
+use Rattle.ending.proofs.Zeros.{none_yet, next_zero, all_zero}
 use Rattle.ending.proofs.zero_words.Goals as goal
 
 pub loop-j-init : goal.loop-j-init
