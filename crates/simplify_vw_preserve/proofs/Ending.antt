@@ -5,7 +5,6 @@ use Prim.Native.Nat.{ℕ, ◌+◌, ◌≤◌, ◌<◌}
 use native.Mathlib.Nat.{sub-zero}
 use native.Mathlib.Omega.{arith}
 use lib.ListN.{length, get_or, set, length-append, length-map, length-set}
-use Rattle.rule.specs.Grid.{points}
 use Rattle.rule.specs.Rings.{ends_from}
 use Rattle.rule.specs.Whole.{over}
 use Rattle.layout.specs.declared.Layout.{Layout}

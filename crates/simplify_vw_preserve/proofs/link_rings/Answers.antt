@@ -1,10 +1,7 @@
 -- `simplify_vw_preserve::link_rings` meets its contract. Assumes nothing.
-use Prim.Native.Nat.{◌-◌}
 use native.Mathlib.Omega.{arith}
-use lib.ListN.{length}
-use borrow.Author.Rules.{rules}
 use Rattle.ring_reasons.proofs.Cut.{next_from, next_to}
-use Rattle.simplify_vw_preserve.proofs.Thinning.{Linking, linking_start, linking_more, linking_end}
+use Rattle.simplify_vw_preserve.proofs.Thinning.{linking_start, linking_more, linking_end}
 use Rattle.simplify_vw_preserve.proofs.link_rings.Goals as goal
 
 pub loop-k-init : goal.loop-k-init

@@ -1,10 +1,7 @@
 -- `simplify_vw_preserve::list_ends` meets its contract. Assumes nothing.
-use Prim.Native.Nat.{◌-◌}
 use native.Mathlib.Omega.{arith}
-use lib.ListN.{length}
-use borrow.Author.Rules.{rules}
 use Rattle.ring_reasons.proofs.Cut.{next_to}
-use Rattle.simplify_vw_preserve.proofs.Ending.{Ending, ending_start, ending_more, ending_end}
+use Rattle.simplify_vw_preserve.proofs.Ending.{ending_start, ending_more, ending_end}
 use Rattle.simplify_vw_preserve.proofs.list_ends.Goals as goal
 
 pub loop-k-init : goal.loop-k-init

@@ -1,5 +1,4 @@
 -- `simplify_vw_preserve::preserve_line` meets its contract. Assumes nothing.
-use borrow.Author.Rules.{rules}
 use Rattle.lent.proofs.Points.{runs_fit}
 use Rattle.simplify_vw_preserve.proofs.Whole.{one_ring, behind_fits, keeps_line}
 use Rattle.simplify_vw_preserve.proofs.preserve_line.Goals as goal

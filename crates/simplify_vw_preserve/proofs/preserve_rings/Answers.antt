@@ -1,6 +1,5 @@
 -- `simplify_vw_preserve::preserve_rings` meets its contract. Assumes nothing.
 use native.Mathlib.Omega.{arith}
-use borrow.Author.Rules.{rules}
 use Rattle.lent.proofs.Points.{runs_fit}
 use Rattle.simplify_vw_preserve.proofs.Whole.{behind_fits, keeps_rings}
 use Rattle.simplify_vw_preserve.proofs.preserve_rings.Goals as goal

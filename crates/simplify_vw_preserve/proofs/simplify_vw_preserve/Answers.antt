@@ -1,7 +1,6 @@
 -- `simplify_vw_preserve::simplify_vw_preserve` meets its contract. Assumes nothing.
-use borrow.Author.Rules.{rules}
 use Rattle.rule.specs.Rings.{line_rule}
-use Rattle.reasons.proofs.Verdict.{as_told, refused_call}
+use Rattle.reasons.proofs.Verdict.{refused_call}
 use Rattle.reasons.proofs.Ready.{thin_accepted}
 use Rattle.ending.proofs.Whole.{thins_done}
 use Rattle.simplify_vw_preserve.proofs.simplify_vw_preserve.Goals as goal

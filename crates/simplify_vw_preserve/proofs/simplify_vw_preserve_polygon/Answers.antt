@@ -1,5 +1,4 @@
 -- `simplify_vw_preserve::simplify_vw_preserve_polygon` meets its contract. Assumes nothing.
-use borrow.Author.Rules.{rules}
 use Rattle.reasons.proofs.Verdict.{as_told, accepted, refused_call}
 use Rattle.simplify_vw_preserve.proofs.Whole.{rings_done}
 use Rattle.simplify_vw_preserve.proofs.Ready.{polygon_ready}

@@ -1,15 +1,10 @@
 -- `simplify_vw_preserve::vwp_wrapper` meets its contract. The invariant: so many rings are thinned. Assumes nothing.
 use mathlib.Core.Path.{sym, ◌∙◌}
-use Prim.Native.Nat.{◌-◌}
 use native.Mathlib.Omega.{arith}
-use lib.ListN.{length}
-use borrow.Author.Rules.{rules}
-use borrow.Author.Tests.{not-true, not-false}
 use Rattle.blocks.proofs.Stored.{behind_free}
 use Rattle.thin.proofs.Removing.{room_as}
-use Rattle.thin_ring.specs.Calls.{minima}
 use Rattle.ring_reasons.proofs.Cut.{next_from, next_to}
-use Rattle.simplify_vw_preserve.proofs.Thinning.{Thinning, wrapped_whole, thinning_start, thinning_more, thinning_end}
+use Rattle.simplify_vw_preserve.proofs.Thinning.{wrapped_whole, thinning_start, thinning_more, thinning_end}
 use Rattle.simplify_vw_preserve.proofs.vwp_wrapper.Goals as goal
 
 pub returns-then-not-tolerance_positive : goal.returns-then-not-tolerance_positive
