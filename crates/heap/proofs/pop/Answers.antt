@@ -1,12 +1,7 @@
 -- `heap::pop` meets its contract. Assumes nothing.
-use mathlib.Core.Path.{◌≡◌, refl, sym, ◌∙◌}
-use mathlib.Core.Logic.{⊎_elim}
-use Prim.Native.Nat.{◌-◌, ◌+◌, ◌*◌}
+use mathlib.Core.Path.{refl, sym, ◌∙◌}
 use native.Mathlib.Omega.{arith}
-use borrow.Author.Rules.{rules}
-use borrow.Author.Tests.{not-true, not-false}
-use Rattle.scores.specs.Children.{children}
-use Rattle.heap.proofs.Sinking.{Down, down_start, down_holds, down_turn, down_end, down_stop, down_rest}
+use Rattle.heap.proofs.Sinking.{down_start, down_holds, down_turn, down_end, down_stop, down_rest}
 use Rattle.heap.proofs.pop.Goals as goal
 use Rattle.heap.proofs.pop.Goals.{else-loop-c-test, then-loop-c-test+then-not-sooner}
 

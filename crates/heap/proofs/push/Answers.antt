@@ -1,10 +1,7 @@
 -- `heap::push` meets its contract. Assumes nothing.
 use mathlib.Core.Path.{sym, ◌∙◌}
-use mathlib.Core.Logic.{⊎_elim}
 use native.Mathlib.Omega.{arith}
-use borrow.Author.Rules.{rules}
-use borrow.Author.Tests.{not-true, not-false}
-use Rattle.heap.proofs.Rising.{Up, up_start, up_holds, up_turn, up_end, up_stop, up_rest}
+use Rattle.heap.proofs.Rising.{up_start, up_holds, up_turn, up_end, up_stop, up_rest}
 use Rattle.heap.proofs.push.Goals as goal
 use Rattle.heap.proofs.push.Goals.{else-loop-j-test, then-loop-j-test+then-not-sooner}
 

@@ -1,5 +1,4 @@
 -- `lent::area_short` meets its contract. Assumes nothing.
-use borrow.Author.Rules.{rules}
 use borrow.Author.Tests.{lt-ltb, le-ltb}
 use Rattle.rule.specs.Sizes.{area_floats}
 use Rattle.lent.proofs.area_short.Goals as goal

@@ -1,14 +1,8 @@
 -- `lent::first_off_grid` meets its contract. The invariant: what the search finds is what it finds from i on. Assumes nothing.
-use mathlib.Core.Path.{◌≡◌, refl, sym, ◌∙◌}
-use mathlib.Core.List.{List}
-use Prim.Native.Nat.{◌≤◌, ◌-◌}
+use mathlib.Core.Path.{refl, sym, ◌∙◌}
 use native.Mathlib.Omega.{arith}
-use lib.ListN.{length}
-use lib.Ieee.{Float}
-use borrow.Author.Rules.{rules}
-use borrow.Author.Tests.{not-true, not-false}
 use Rattle.rule.specs.Reasons.{first_off_grid}
-use Rattle.lent.proofs.Scan.{rest, end_x, end_y, off_x, off_y, on_both}
+use Rattle.lent.proofs.Scan.{end_x, end_y, off_x, off_y, on_both}
 use Rattle.lent.proofs.first_off_grid.Goals as goal
 
 pub loop-i-init : goal.loop-i-init

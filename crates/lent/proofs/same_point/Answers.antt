@@ -1,5 +1,4 @@
 -- `lent::same_point` meets its contract. Assumes nothing.
-use borrow.Author.Rules.{rules}
 use Rattle.lent.proofs.Points.{at_points}
 use Rattle.lent.proofs.same_point.Goals as goal
 

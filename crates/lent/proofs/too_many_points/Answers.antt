@@ -1,7 +1,6 @@
 -- `lent::too_many_points` meets its contract. Assumes nothing.
 use mathlib.Core.Path.{ap}
 use lib.Dec.{ltb}
-use borrow.Author.Rules.{rules}
 use Rattle.rule.specs.Sizes.{most_points}
 use Rattle.lent.proofs.too_many_points.Goals as goal
 

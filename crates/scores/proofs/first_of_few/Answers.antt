@@ -1,7 +1,5 @@
 -- `scores::first_of_few` meets its contract. Assumes nothing.
-use Prim.Native.Nat.{◌-◌, ◌≤◌}
 use native.Mathlib.Omega.{arith}
-use Rattle.scores.specs.Children.{First}
 use Rattle.scores.proofs.Children.{child_is, first_one, first_join, first_all}
 use Rattle.scores.proofs.first_of_few.Goals as goal
 

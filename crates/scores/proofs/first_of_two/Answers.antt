@@ -1,6 +1,5 @@
 -- `scores::first_of_two` meets its contract. Assumes nothing.
 use native.Mathlib.Omega.{arith}
-use borrow.Author.Rules.{rules}
 use Rattle.scores.proofs.Children.{child_is, first_one, first_join}
 use Rattle.scores.proofs.first_of_two.Goals as goal
 

@@ -1,5 +1,4 @@
 -- `scores::store` meets its contract. Assumes nothing.
-use borrow.Author.Rules.{rules}
 use native.Mathlib.Omega.{arith}
 use lib.ListN.{length-set}
 use Rattle.scores.proofs.store.Goals as goal

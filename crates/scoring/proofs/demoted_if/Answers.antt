@@ -1,6 +1,4 @@
 -- `scoring::demoted_if` meets its contract. Assumes nothing.
-use borrow.Author.Tests.{not-true, not-false}
-use borrow.Author.Rules.{rules}
 use Rattle.scoring.proofs.Scoring.{demoted_not, demoted_none, demoted_one}
 use Rattle.scoring.proofs.demoted_if.Goals as goal
 

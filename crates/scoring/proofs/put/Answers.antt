@@ -1,5 +1,4 @@
 -- `scoring::put` meets its contract. Assumes nothing.
-use borrow.Author.Rules.{rules}
 use Rattle.scoring.proofs.Putting.{put_full, put_missing, put_pushes}
 use Rattle.scoring.proofs.put.Goals as goal
 

@@ -1,6 +1,5 @@
 -- `scoring::score_of` meets its contract. Assumes nothing.
 use native.Mathlib.Omega.{arith}
-use borrow.Author.Rules.{rules}
 use Rattle.scoring.proofs.Scoring.{score_made}
 use Rattle.scoring.specs.Plot.{missing}
 use Rattle.scoring.proofs.score_of.Goals as goal
