@@ -1,5 +1,5 @@
 -- The boxes hold the present segments still: where nothing changed that counts, and over a removal. Assumes nothing.
-use mathlib.Core.Path.{◌≡◌, sym, ap, ◌∙◌, subst}
+use mathlib.Core.Path.{◌≡◌, sym, subst}
 use mathlib.Core.List.{List}
 use mathlib.Core.Logic.{◌⊎◌, inl, inr}
 use Prim.Native.Nat.{ℕ, ◌+◌, ◌*◌, ◌/◌, ◌≤◌, ◌<◌}
@@ -12,7 +12,6 @@ use Rattle.layout.specs.Points.{PlacedIn}
 use Rattle.vscore.specs.declared.VScore.{VScore}
 use Rattle.links.specs.Words.{HasLinks, next_at, Starts, unlinked, SameLinks}
 use Rattle.links.proofs.Memory.{same_from, starts_same, unlinked_starts}
-use Rattle.bounds.specs.declared.Bounds.{Bounds}
 use Rattle.bounds.specs.Bounds.{SidesOn}
 use Rattle.blocks.specs.declared.Blocks.{Blocks}
 use Rattle.blocks.specs.Boxes.{box_floats, box_at, HasBoxes, covered, Spans, Boxed}

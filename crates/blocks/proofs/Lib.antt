@@ -3,5 +3,6 @@ pub mod Stored
 pub mod Made
 pub mod Kept
 pub mod Row
+-- What loops keep.
 mod Clearing
 mod Covering

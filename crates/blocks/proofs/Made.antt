@@ -9,7 +9,7 @@ use lib.Dec.{ltb}
 use lib.ListN.{length}
 use lib.Ieee.{Float}
 use borrow.Author.Tests.{ltb-true, ltb-false}
-use Rattle.rule.specs.Grid.{Point, at, point_of}
+use Rattle.rule.specs.Grid.{Point}
 use Rattle.layout.specs.declared.Layout.{Layout}
 use Rattle.layout.specs.Points.{from, PlacedIn}
 use Rattle.links.specs.Words.{next_at, Starts}

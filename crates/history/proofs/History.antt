@@ -1,8 +1,8 @@
 -- The history theorem: from a clear on, whatever the calls, all answers and outputs are those of the slots as a reader thinks of them. Assumes nothing.
---     history-begins     there is a history of every area
+--     history_begins     there is a history of every area
 --     history            all answers and outputs are as expected
 --     cut_short          a call that is lent the area cut short is refused with 8, and its output is as it was
---     not-cut            no other call is
+--     not_cut            no other call is
 use mathlib.Core.Path.{◌≡◌, refl, sym, ap, ◌∙◌, subst}
 use mathlib.Core.Logic.{◌≢◌}
 use mathlib.Core.Bool.{Bool, true, false, not, ◌||◌, cond, true≢false}

@@ -1,9 +1,9 @@
 -- What the history theorem says of one slot since it was opened. Assumes nothing.
---     kth-step              the k-th step since opening gives the k-th removal, or finished
---     finished-in-time      finished by step n - 1, or by step 1 below 2 points
+--     kth_step              the k-th step since opening gives the k-th removal, or finished
+--     finished_in_time      finished by step n - 1, or by step 1 below 2 points
 --     read_left             a read shows exactly the points left
---     nothing-lost          the removals answered and the points listed are the points opened, each once
---     others-change-nothing, alone, alone-read      calls on other slots change nothing of this
+--     nothing_lost          the removals answered and the points listed are the points opened, each once
+--     others_change_nothing, alone, alone_read      calls on other slots change nothing of this
 --     anew                  closing and opening again starts anew
 use mathlib.Core.Path.{◌≡◌, refl, sym, ap, ◌∙◌, subst}
 use mathlib.Core.Bool.{Bool, true, false, not, ◌&&◌, cond, true≢false}

@@ -1,8 +1,6 @@
 -- `blocks::block_size` meets its contract. Assumes nothing.
-use Prim.Native.Nat.{ℕ, ◌-◌, ◌≤◌, ◌<◌}
 use native.Mathlib.Nat.{div-le_self}
 use native.Mathlib.Omega.{arith}
-use Rattle.rule.specs.Sizes.{most_points}
 use Rattle.blocks.proofs.block_size.Goals as goal
 
 pub loop-size-init : goal.loop-size-init

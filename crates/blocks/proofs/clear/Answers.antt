@@ -1,16 +1,6 @@
 -- `blocks::clear` meets its contract. Assumes nothing.
-use mathlib.Core.Path.{◌≡◌, refl, ◌∙◌, subst}
-use mathlib.Core.List.{List}
-use Prim.Native.Nat.{ℕ, suc, ◌+◌, ◌-◌, ◌*◌, ◌≤◌, ◌<◌}
 use native.Mathlib.Omega.{arith}
-use lib.ListN.{length}
-use lib.Ieee.{Float}
-use borrow.Author.Rules.{rules}
-use Rattle.bounds.specs.declared.Bounds.{Bounds}
-use Rattle.bounds.specs.Bounds.{of_none}
-use Rattle.blocks.specs.declared.Blocks.{Blocks}
-use Rattle.blocks.specs.Boxes.{box_floats, stored, cleared}
-use Rattle.blocks.proofs.Clearing.{Clearing, clearing_start, clearing_more, clearing_end}
+use Rattle.blocks.proofs.Clearing.{clearing_start, clearing_more, clearing_end}
 use Rattle.blocks.proofs.clear.Goals as goal
 
 pub loop-k-init : goal.loop-k-init

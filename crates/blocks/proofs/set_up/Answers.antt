@@ -1,15 +1,6 @@
 -- `blocks::set_up` meets its contract. The invariant: the boxes are widened by the segments that start below i. Assumes nothing.
-use mathlib.Core.Path.{◌≡◌, refl, ap, ◌∙◌, subst}
-use mathlib.Core.List.{List}
-use Prim.Native.Nat.{ℕ, suc, ◌+◌, ◌-◌, ◌≤◌, ◌<◌}
 use native.Mathlib.Omega.{arith}
-use lib.ListN.{length}
-use lib.Ieee.{Float}
-use borrow.Author.Rules.{rules}
-use Rattle.layout.specs.declared.Layout.{Layout}
-use Rattle.blocks.specs.declared.Blocks.{Blocks}
-use Rattle.blocks.specs.Boxes.{covered_from, cleared, covered_to, set_up}
-use Rattle.blocks.proofs.Covering.{Covering, covering_start, covering_more, covering_end}
+use Rattle.blocks.proofs.Covering.{covering_start, covering_more, covering_end}
 use Rattle.blocks.proofs.set_up.Goals as goal
 
 pub loop-i-init : goal.loop-i-init

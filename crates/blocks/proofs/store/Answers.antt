@@ -1,5 +1,4 @@
 -- `blocks::store` meets its contract. Assumes nothing.
-use borrow.Author.Rules.{rules}
 use native.Mathlib.Omega.{arith}
 use lib.ListN.{length-set}
 use Rattle.blocks.proofs.store.Goals as goal

@@ -2,7 +2,6 @@
 use mathlib.Core.Path.{refl}
 use mathlib.Core.Logic.{inl, inr}
 use native.Mathlib.Omega.{arith}
-use borrow.Author.Rules.{rules}
 use Rattle.crossing.proofs.beyond.Goals as goal
 
 pub returns-then-j-i : goal.returns-then-j-i

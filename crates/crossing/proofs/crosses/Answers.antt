@@ -1,9 +1,7 @@
 -- `crossing::crosses` meets its contract. The invariant: block after block is passed. Assumes nothing.
 use mathlib.Core.Path.{sym}
-use Prim.Native.Nat.{◌-◌}
 use native.Mathlib.Omega.{arith}
-use borrow.Author.Rules.{rules}
-use Rattle.crossing.proofs.Passing.{Tested, tested_start, tested_more, tested_end, walk_as}
+use Rattle.crossing.proofs.Passing.{tested_start, tested_more, tested_end, walk_as}
 use Rattle.crossing.proofs.crosses.Goals as goal
 
 pub loop-start-init : goal.loop-start-init

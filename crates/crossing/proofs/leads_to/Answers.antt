@@ -1,7 +1,6 @@
 -- `crossing::leads_to` meets its contract. Assumes nothing.
 use mathlib.Core.Path.{sym, ◌∙◌}
 use native.Mathlib.Omega.{arith}
-use borrow.Author.Rules.{rules}
 use borrow.Author.Tests.{eqb-true, eqb-false}
 use Rattle.crossing.proofs.leads_to.Goals as goal
 

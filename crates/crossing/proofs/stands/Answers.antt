@@ -1,7 +1,6 @@
 -- `crossing::stands` meets its contract. Assumes nothing.
 use mathlib.Core.Path.{refl}
 use native.Mathlib.Omega.{arith}
-use borrow.Author.Rules.{rules}
 use Rattle.crossing.proofs.stands.Goals as goal
 
 pub returns-then-m-j : goal.returns-then-m-j

@@ -1,9 +1,7 @@
 -- `crossing::walk` meets its contract. The invariant: none that starts before i is against. Assumes nothing.
-use borrow.Author.Rules.{rules}
-use Prim.Native.Nat.{◌-◌}
 use native.Mathlib.Omega.{arith}
 use Rattle.crossing.proofs.Crossing.{stands_crosses}
-use Rattle.crossing.proofs.Passing.{Walking, walking_start, walking_more}
+use Rattle.crossing.proofs.Passing.{walking_start, walking_more}
 use Rattle.crossing.proofs.walk.Goals as goal
 
 pub loop-i-init : goal.loop-i-init

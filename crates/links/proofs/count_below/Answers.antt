@@ -1,11 +1,7 @@
 -- `links::count_below` meets its contract. Assumes nothing.
 use mathlib.Core.Path.{sym, ◌∙◌}
-use mathlib.Core.Logic.{⊎_elim}
-use Prim.Native.Nat.{◌-◌}
 use native.Mathlib.Omega.{arith}
-use borrow.Author.Rules.{rules}
-use Rattle.links.specs.Words.{mark_at}
-use Rattle.links.proofs.Listing.{Counting, counting_start, counting_kept, counting_gone, counting_end, counting_as}
+use Rattle.links.proofs.Listing.{counting_start, counting_kept, counting_gone, counting_end, counting_as}
 use Rattle.links.proofs.count_below.Goals as goal
 use Rattle.links.proofs.count_below.Goals.{then-kept, else-kept}
 

@@ -1,8 +1,5 @@
 -- `links::link` meets its contract. Assumes nothing.
-use Prim.Native.Nat.{◌-◌}
-use native.Mathlib.Omega.{arith}
-use borrow.Author.Rules.{rules}
-use Rattle.links.proofs.Turns.{Linking, linking_start, linking_more, linking_end, back_small, ahead_small}
+use Rattle.links.proofs.Turns.{linking_start, linking_more, linking_end}
 use Rattle.links.proofs.link.Goals as goal
 
 pub loop-i-init : goal.loop-i-init

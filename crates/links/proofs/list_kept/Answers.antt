@@ -1,11 +1,6 @@
 -- `links::list_kept` meets its contract. Assumes nothing.
 use mathlib.Core.Path.{sym, ◌∙◌}
-use mathlib.Core.Logic.{⊎_elim}
-use Prim.Native.Nat.{◌-◌}
-use native.Mathlib.Omega.{arith}
-use borrow.Author.Rules.{rules}
-use Rattle.links.specs.Words.{mark_at}
-use Rattle.links.proofs.Listing.{Listing, listing_start, listing_kept, listing_full, listing_gone, listing_end, listing_as}
+use Rattle.links.proofs.Listing.{listing_start, listing_kept, listing_full, listing_gone, listing_end, listing_as}
 use Rattle.links.proofs.list_kept.Goals as goal
 use Rattle.links.proofs.list_kept.Goals.{then-kept+then-count-out, then-kept+else-count-out, else-kept}
 

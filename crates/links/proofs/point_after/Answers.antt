@@ -1,6 +1,5 @@
 -- `links::point_after` meets its contract. Assumes nothing.
 use borrow.Author.Tests.{lt-ltb, le-ltb}
-use borrow.Author.Rules.{rules}
 use Rattle.links.proofs.point_after.Goals as goal
 
 pub returns-then-i-hi : goal.returns-then-i-hi

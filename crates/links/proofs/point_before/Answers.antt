@@ -1,6 +1,5 @@
 -- `links::point_before` meets its contract. Assumes nothing.
 use borrow.Author.Tests.{lt-ltb, le-ltb}
-use borrow.Author.Rules.{rules}
 use Rattle.links.proofs.point_before.Goals as goal
 
 pub returns-then-lo-i : goal.returns-then-lo-i

@@ -2,7 +2,6 @@
 use mathlib.Core.Path.{refl}
 use native.Mathlib.Omega.{arith}
 use lib.ListN.{length-set}
-use borrow.Author.Rules.{rules}
 use Rattle.links.proofs.write.Goals as goal
 
 pub bounds-words-m-2 : goal.bounds-words-m-2

@@ -1,14 +1,11 @@
 -- `part::advance` meets its contract. Assumes nothing.
 use mathlib.Core.Path.{◌≡◌, ap, ◌∙◌}
-use mathlib.Core.List.{List}
-use Prim.Native.Nat.{ℕ, ◌*◌, ◌-◌, ◌≤◌}
+use Prim.Native.Nat.{◌*◌, ◌-◌, ◌≤◌}
 use native.Mathlib.Omega.{arith}
-use lib.ListN.{length, get_or, length-set}
-use lib.Ieee.{Float, nan}
-use borrow.Author.Rules.{rules}
+use lib.ListN.{length, get_or}
+use lib.Ieee.{nan}
 use Rattle.rule.specs.Sizes.{most_points, slot_floats, slot_words}
 use Rattle.layout.specs.declared.Layout.{Layout}
-use Rattle.thin.proofs.Stepping.{picked_as}
 use Rattle.part.proofs.Places.{slot_room, slot_points}
 use Rattle.part.proofs.Advancing.{no_line, scores_fit, part_finished, part_removed}
 use Rattle.part.proofs.advance.Goals as goal

@@ -1,14 +1,10 @@
 -- `part::copy` meets its contract. Assumes nothing.
-use mathlib.Core.Path.{◌≡◌, refl, ◌∙◌, subst}
-use mathlib.Core.List.{List}
-use Prim.Native.Nat.{ℕ, ◌+◌, ◌-◌, ◌≤◌, ◌<◌}
+use mathlib.Core.Path.{refl, ◌∙◌, subst}
+use Prim.Native.Nat.{ℕ}
 use native.Mathlib.Omega.{arith}
-use native.Mathlib.Decide.{ℕ_discrete}
-use lib.ListN.{length, get_or, set, length-set}
-use lib.Seq.{get_or-set_same, get_or-set_other}
-use lib.Ieee.{Float, nan}
+use lib.ListN.{length-set}
 use Rattle.part.specs.Parts.{Copied}
-use Rattle.part.proofs.Copying.{Copying, copied_none, copied_more}
+use Rattle.part.proofs.Copying.{copied_none, copied_more}
 use Rattle.part.proofs.copy.Goals as goal
 
 pub loop-i-init : goal.loop-i-init

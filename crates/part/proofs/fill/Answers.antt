@@ -1,11 +1,8 @@
 -- `part::fill` meets its contract. Assumes nothing.
 use mathlib.Core.Path.{◌≡◌, sym, ap, ◌∙◌, subst}
-use mathlib.Core.List.{List}
-use Prim.Native.Nat.{◌*◌, ◌-◌}
+use Prim.Native.Nat.{◌*◌}
 use native.Mathlib.Omega.{arith}
 use lib.ListN.{length, length-set}
-use lib.Ieee.{Float}
-use borrow.Author.Rules.{rules}
 use Rattle.rule.specs.Sizes.{most_points, slot_floats, slot_words}
 use Rattle.lent.specs.Fine.{Fine}
 use Rattle.layout.specs.declared.Layout.{Layout}

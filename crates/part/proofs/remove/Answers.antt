@@ -1,8 +1,6 @@
 -- `part::remove` meets its contract, by the law of a removal. Assumes nothing.
 use mathlib.Core.Path.{◌∙◌}
 use mathlib.Core.Bool.{false}
-use native.Mathlib.Omega.{arith}
-use borrow.Author.Rules.{rules}
 use Rattle.thin.proofs.Removing.{room_as, removed_law}
 use Rattle.part.proofs.remove.Goals as goal
 

@@ -1,7 +1,6 @@
 -- `thin::pick` meets its contract. Assumes nothing.
 use native.Mathlib.Omega.{arith}
-use borrow.Author.Rules.{rules}
-use Rattle.thin.proofs.PickTurns.{Picking, pick_start, pick_turn, pick_empty, pick_above, pick_found, pick_holds, pick_links}
+use Rattle.thin.proofs.PickTurns.{pick_start, pick_turn, pick_empty, pick_above, pick_found, pick_holds, pick_links}
 use Rattle.thin.proofs.pick.Goals as goal
 
 pub loop-k-init : goal.loop-k-init

@@ -1,7 +1,5 @@
 -- `thin::remove` meets its contract. Assumes nothing.
 use mathlib.Core.Path.{refl, ◌∙◌}
-use native.Mathlib.Omega.{arith}
-use borrow.Author.Rules.{rules}
 use Rattle.thin.proofs.Removing.{room_as, removed_law}
 use Rattle.scoring.proofs.Scoring.{scored_demoted}
 use Rattle.thin.proofs.remove.Goals as goal

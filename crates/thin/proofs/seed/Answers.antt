@@ -1,7 +1,6 @@
 -- `thin::seed` meets its contract. Assumes nothing.
-use Prim.Native.Nat.{◌-◌}
 use native.Mathlib.Omega.{arith}
-use Rattle.thin.proofs.SeedTurns.{Seeding, seed_start, seed_turn, seed_end}
+use Rattle.thin.proofs.SeedTurns.{seed_start, seed_turn, seed_end}
 use Rattle.thin.proofs.Removing.{room_as}
 use Rattle.thin.proofs.seed.Goals as goal
 

@@ -1,7 +1,6 @@
 -- `thin::step` meets its contract. Assumes nothing.
 use native.Mathlib.Omega.{arith}
-use borrow.Author.Rules.{rules}
-use Rattle.thin.proofs.Stepping.{picked_as, step_finished, step_removed}
+use Rattle.thin.proofs.Stepping.{step_finished, step_removed}
 use Rattle.thin.proofs.Removing.{room_as}
 use Rattle.thin.proofs.step.Goals as goal
 

@@ -1,7 +1,6 @@
 -- `thin_ring::advance` meets its contract. Assumes nothing.
 use mathlib.Core.Path.{sym, ◌∙◌}
 use native.Mathlib.Omega.{arith}
-use borrow.Author.Rules.{rules}
 use Rattle.blocks.proofs.Stored.{has_as}
 use Rattle.thin.proofs.Removing.{room_as}
 use Rattle.thin.proofs.Stepping.{picked_as}

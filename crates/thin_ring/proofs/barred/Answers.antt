@@ -1,5 +1,4 @@
 -- `thin_ring::barred` meets its contract. Assumes nothing.
-use borrow.Author.Rules.{rules}
 use Rattle.thin_ring.proofs.barred.Goals as goal
 
 pub returns-then-crossed : goal.returns-then-crossed

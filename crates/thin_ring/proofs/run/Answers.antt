@@ -1,10 +1,8 @@
 -- `thin_ring::run` meets its contract. Assumes nothing.
 use native.Mathlib.Omega.{arith}
-use borrow.Author.Rules.{rules}
 use Rattle.thin.proofs.Removing.{room_as}
 use Rattle.blocks.proofs.Stored.{free_as}
-use Rattle.thin_ring.specs.Calls.{minima}
-use Rattle.thin_ring.proofs.Running.{Going, run_start, run_none, run_stop, run_turn, moved_as}
+use Rattle.thin_ring.proofs.Running.{run_start, run_none, run_stop, run_turn, moved_as}
 use Rattle.thin_ring.proofs.run.Goals as goal
 
 pub loop-kept-init : goal.loop-kept-init

@@ -1,5 +1,4 @@
 -- `thin_ring::visvalingam_preserve` meets its contract. Assumes nothing.
-use borrow.Author.Rules.{rules}
 use Rattle.thin_ring.proofs.Running.{ring_law}
 use Rattle.thin_ring.proofs.visvalingam_preserve.Goals as goal
 
