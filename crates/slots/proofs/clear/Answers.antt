@@ -2,8 +2,7 @@
 use mathlib.Core.Path.{◌≡◌, refl, sym, ◌∙◌}
 use mathlib.Core.Bool.{Bool, true, false, cond}
 use native.Mathlib.Omega.{arith}
-use borrow.Author.Rules.{rules}
-use Rattle.rule.specs.Area.{Area, area, zeroed}
+use Rattle.rule.specs.Area.{area, zeroed}
 use Rattle.rule.specs.Reasons.{clear_reason}
 use Rattle.rule.proofs.Parts.{Long, long}
 use Rattle.rule.proofs.Settled.{call_refused, call_done}

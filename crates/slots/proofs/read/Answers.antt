@@ -1,9 +1,7 @@
 -- `slots::read` meets its contract. Assumes nothing.
 use mathlib.Core.Path.{◌≡◌, sym, ap, ◌∙◌, subst}
 use mathlib.Core.Option.{none}
-use Prim.Native.Nat.{ℕ}
 use native.Mathlib.Omega.{arith}
-use borrow.Author.Rules.{rules}
 use Rattle.rule.specs.Answers.{of_outcome, of_listing}
 use Rattle.rule.specs.Area.{Area, area}
 use Rattle.rule.specs.Reasons.{slot_reason}

@@ -1,11 +1,9 @@
 -- `slots::step` meets its contract. Assumes nothing.
 use mathlib.Core.Path.{◌≡◌, sym, ap, ◌∙◌}
 use mathlib.Core.Option.{none}
-use Prim.Native.Nat.{ℕ}
 use native.Mathlib.Omega.{arith}
-use borrow.Author.Rules.{rules}
 use Rattle.rule.specs.Answers.{of_outcome, of_step}
-use Rattle.rule.specs.Area.{Area, area}
+use Rattle.rule.specs.Area.{area}
 use Rattle.rule.specs.Reasons.{slot_reason}
 use Rattle.reasons.proofs.Verdict.{accepted}
 use Rattle.part.specs.Parts.{StepsPart}
