@@ -1,7 +1,6 @@
 -- `simplify_vw::keeps_all` meets its contract. Assumes nothing.
 use mathlib.Core.Path.{ap}
 use mathlib.Core.Bool.{not}
-use borrow.Author.Rules.{rules}
 use Rattle.simplify_vw.proofs.keeps_all.Goals as goal
 
 pub returns-in-Point : goal.returns-in-Point

@@ -1,16 +1,8 @@
 -- `simplify_vw::remove_all` meets its contract. The invariant: the memory has what the rule leaves after so many removals. Assumes nothing.
 use mathlib.Core.Path.{◌≡◌, refl, sym, ◌∙◌}
-use mathlib.Core.List.{List}
-use Prim.Native.Nat.{ℕ, ◌-◌}
-use native.Mathlib.Omega.{arith}
 use lib.ListN.{length}
-use lib.Ieee.{Float}
-use borrow.Author.Rules.{rules}
 use Rattle.thin.proofs.Removing.{room_as}
-use Rattle.rule.specs.Plain.{index_rule}
-use Rattle.simplify_vw.specs.Rule.{of_rule}
-use Rattle.simplify_vw.specs.Calls.{Ran}
-use Rattle.simplify_vw.proofs.Running.{Running, stepped_as, run_none, run_start, run_whole, run_turn, run_finished, run_end}
+use Rattle.simplify_vw.proofs.Running.{run_none, run_start, run_whole, run_turn, run_finished, run_end}
 use Rattle.simplify_vw.proofs.remove_all.Goals as goal
 
 -- ---- what each place knows

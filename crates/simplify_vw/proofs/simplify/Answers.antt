@@ -1,10 +1,5 @@
 -- `simplify_vw::simplify` meets its contract. Assumes nothing.
-use mathlib.Core.List.{List}
-use Prim.Native.Nat.{ℕ}
-use lib.Ieee.{Float}
-use borrow.Author.Rules.{rules}
-use Rattle.rule.specs.Grid.{Point}
-use Rattle.reasons.proofs.Verdict.{as_told, refused_call}
+use Rattle.reasons.proofs.Verdict.{refused_call}
 use Rattle.reasons.proofs.Ready.{thin_accepted}
 use Rattle.ending.proofs.Whole.{thins_done}
 use Rattle.simplify_vw.specs.Rule.{of_rule}

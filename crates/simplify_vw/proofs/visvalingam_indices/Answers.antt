@@ -1,5 +1,4 @@
 -- `simplify_vw::visvalingam_indices` meets its contract. Assumes nothing.
-use borrow.Author.Rules.{rules}
 use Rattle.lent.proofs.Points.{runs_fit}
 use Rattle.simplify_vw.proofs.Calls.{keeps_rule}
 use Rattle.simplify_vw.proofs.visvalingam_indices.Goals as goal
