@@ -1,13 +1,13 @@
 -- What demotion comes to in the preserving rule in one ring, beside any others: who is demoted is the next to go. Assumes nothing.
---     none-demoted, still_one    at most one candidate is demoted: at first, and after a removal if before it
+--     none_demoted, still_one    at most one candidate is demoted: at first, and after a removal if before it
 -- Of every state that the thinning of an increasing ring reaches:
---     ring-reaches       what the first n removals leave is such a state, and the removals go on from it
---     reached-rises      what is kept is increasing
---     one-demoted        at most one candidate is demoted
---     demoted-next       if one is, the next move removes it or stops
---     left-demoted       after a removal the left neighbour of what was removed is demoted, if the new segment crossed, and no other candidate
+--     ring_reaches       what the first n removals leave is such a state, and the removals go on from it
+--     reached_rises      what is kept is increasing
+--     one_demoted        at most one candidate is demoted
+--     demoted_next       if one is, the next move removes it or stops
+--     left_demoted       after a removal the left neighbour of what was removed is demoted, if the new segment crossed, and no other candidate
 -- So it does not matter when demotions end:
---     demotion-unseen    the removals are the same if they never end
+--     demotion_unseen    the removals are the same if they never end
 use mathlib.Core.Path.{◌≡◌, refl, sym, ap, ◌∙◌, subst}
 use mathlib.Core.Bool.{Bool, true, false, cond, ◌&&◌, ◌||◌, true≢false, false≢true}
 use mathlib.Core.List.{List, [], ◌∷◌, ◌++◌, tail-eq_of_cons-eq}

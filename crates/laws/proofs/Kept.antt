@@ -1,8 +1,8 @@
 -- Kept lists are strictly increasing, below the number of points, and no longer than it; the ends stay. Assumes nothing.
---     left-rises, index-rises, point-rises           what the plain rule leaves at every moment, and what it keeps
---     consecutive-rises, anywhere-rises              what stays of repeated points
---     ends-left, ends-index, ends-point              ends stay
---     few-index, few-point                           fewer than three points: all kept
+--     left_rises, index_rises, point_rises           what the plain rule leaves at every moment, and what it keeps
+--     consecutive_rises, anywhere_rises              what stays of repeated points
+--     ends_left, ends_index, ends_point              ends stay
+--     few_index, few_point                           fewer than three points: all kept
 use mathlib.Core.Path.{◌≡◌, refl, sym, ◌∙◌, subst}
 use mathlib.Core.Bool.{Bool, true, false, cond}
 use mathlib.Core.List.{List, [], ◌∷◌, ◌++◌}

@@ -1,7 +1,7 @@
 -- What `least` finds, whatever the candidates are ranked by: the one that no other is before. Assumes nothing.
 --     least_first             no candidate is before what `least` finds
---     least-is                a candidate that no other is before is what `least` finds
---     next-some, next-none    so: the next removal of the plain rule, and that there is none
+--     least_is                a candidate that no other is before is what `least` finds
+--     next_some, next_none    so: the next removal of the plain rule, and that there is none
 use mathlib.Core.Path.{◌≡◌, refl, sym, ap, ◌∙◌, subst}
 use mathlib.Core.Logic.{◌⊎◌, inl, inr}
 use mathlib.Core.Bool.{Bool, true, false, cond, ◌&&◌, ◌||◌, true≢false, false≢true}

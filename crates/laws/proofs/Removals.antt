@@ -1,10 +1,10 @@
 -- Laws of the plain rule: how many removals there are, what they leave, and the n-th step. Assumes nothing.
---     removed-few       a line of n points has at most n - 2 removals
---     finished-by       finished by step n - 1, or by step 1 if n is below 2
---     finished-again    and again at each later step
+--     removed_few       a line of n points has at most n - 2 removals
+--     finished_by       finished by step n - 1, or by step 1 if n is below 2
+--     finished_again    and again at each later step
 --     made_of, once, no_other   at every moment the removals made and the points left are the points opened, each once
---     next-nth, left-suc        the step after n steps, and what it leaves
---     removals-more     more steps than `removed` counts change nothing
+--     next_nth, left_suc        the step after n steps, and what it leaves
+--     removals_more     more steps than `removed` counts change nothing
 use mathlib.Core.Path.{◌≡◌, refl, sym, ap, ◌∙◌, subst}
 use mathlib.Core.Bool.{Bool, true, false, cond}
 use mathlib.Core.List.{List, [], ◌∷◌, ◌++◌}

@@ -1,9 +1,9 @@
 -- Laws of the preserving rule in one ring, beside any others. Assumes nothing.
---     move-moves     a move removes a candidate, and only where more are kept than the first minimum
---     ring-one       the removals go one by one, each a candidate of what is left then
---     ring-keeps     at least the first minimum is kept, or all there was
---     ring-stays     a ring of at most the first minimum, or of fewer than three points, keeps all
---     ring-more      more steps than `rings_removals` counts change nothing
+--     move_moves     a move removes a candidate, and only where more are kept than the first minimum
+--     ring_one       the removals go one by one, each a candidate of what is left then
+--     ring_keeps     at least the first minimum is kept, or all there was
+--     ring_stays     a ring of at most the first minimum, or of fewer than three points, keeps all
+--     ring_more      more steps than `rings_removals` counts change nothing
 use mathlib.Core.Path.{◌≡◌, refl, sym, ap, ◌∙◌}
 use mathlib.Core.Bool.{Bool, true, false, cond, ◌&&◌, ◌||◌}
 use mathlib.Core.List.{List, [], ◌∷◌}

@@ -1,21 +1,21 @@
 -- Laws of the preserving rule over all rings, and of the ring table of a polygon. Assumes nothing.
 -- Of each ring, by its number k; the k-th of no more than k rings is taken as empty:
---     preserve-makes     what is removed and what is kept make up the ring
---     preserve-keeps     at least the first minimum is kept, or all there was
---     preserve-few       a ring of at most the first minimum, or of fewer than three points, keeps all
---     preserve-rises     what is kept of an increasing ring is increasing
---     preserve-ends      the ends of an increasing ring stay
---     preserve-closed    so a closed one is kept closed
+--     preserve_makes     what is removed and what is kept make up the ring
+--     preserve_keeps     at least the first minimum is kept, or all there was
+--     preserve_few       a ring of at most the first minimum, or of fewer than three points, keeps all
+--     preserve_rises     what is kept of an increasing ring is increasing
+--     preserve_ends      the ends of an increasing ring stay
+--     preserve_closed    so a closed one is kept closed
 -- Of all of them:
---     preserve-count     as many as there were
---     preserve-all       a tolerance of zero or less keeps all
---     table-joins        the rings of a good table are all points, in order
---     table-ends         their ring table is that table
---     line-rises, polygon-rises      the kept list of a line, and of a polygon, is increasing
---     line-ends, polygon-ends        the ends stay
---     line-few                       fewer than three points: all kept
---     line-all, polygon-all          a tolerance of zero or less keeps all
---     polygon-count, polygon-entries as many rings as there were, and as many entries in their table
+--     preserve_count     as many as there were
+--     preserve_all       a tolerance of zero or less keeps all
+--     table_joins        the rings of a good table are all points, in order
+--     table_ends         their ring table is that table
+--     line_rises, polygon_rises      the kept list of a line, and of a polygon, is increasing
+--     line_ends, polygon_ends        the ends stay
+--     line_few                       fewer than three points: all kept
+--     line_all, polygon_all          a tolerance of zero or less keeps all
+--     polygon_count, polygon_entries as many rings as there were, and as many entries in their table
 use mathlib.Core.Path.{◌≡◌, refl, sym, ap, ◌∙◌, subst}
 use mathlib.Core.Bool.{Bool, true, false, not, ◌&&◌, ◌||◌, true≢false, false≢true}
 use mathlib.Core.List.{List, [], ◌∷◌, ◌++◌, append-nil}

@@ -1,7 +1,7 @@
 -- What the tolerance decides: where the removals stop, and nothing else. Assumes nothing.
---     removals-upTo, removed-upTo   the removals are the start, up to the tolerance, of an order that does not depend on it
---     negative-index                a negative tolerance removes nothing by the index rule
---     point-all                     a tolerance of zero or less keeps every point by the point rule
+--     removals_up_to, removed_up_to   the removals are the start, up to the tolerance, of an order that does not depend on it
+--     negative_index                a negative tolerance removes nothing by the index rule
+--     point_all                     a tolerance of zero or less keeps every point by the point rule
 use mathlib.Core.Path.{◌≡◌, refl}
 use mathlib.Core.Bool.{Bool, true, false, cond, ◌&&◌}
 use mathlib.Core.List.{List, [], ◌∷◌}
