@@ -8,5 +8,5 @@ ghost use Rattle.bits.specs.Bits.{bits_of};
 pub fn of(v: f64) -> u64
     ensures { result ≡ bits_of v }
 {
-    if v == v { f64::to_bits(v) } else { 0 }
+    if v.is_nan() { 0 } else { v.to_bits() }
 }

@@ -3,6 +3,3 @@ pub mod Stored
 pub mod Made
 pub mod Kept
 pub mod Row
--- What loops keep.
-mod Clearing
-mod Covering

@@ -1,11 +1,13 @@
 -- One box stored: it is there, and nothing else changed. Assumes nothing.
-use mathlib.Core.Path.{◌≡◌, refl, ◌∙◌}
-use mathlib.Core.List.{List}
-use Prim.Native.Nat.{ℕ, ◌+◌, ◌*◌, ◌≤◌, ◌<◌}
+use mathlib.Core.Path.{◌≡◌, refl, ap, ◌∙◌}
+use mathlib.Core.List.{List, [], ◌∷◌}
+use Prim.Native.Nat.{ℕ, zero, suc, ◌+◌, ◌*◌, ◌≤◌, ◌<◌}
 use native.Mathlib.Omega.{arith}
 use lib.ListN.{length, get_or, set, length-set}
 use lib.Seq.{get_or-set_same, get_or-set_other}
 use lib.Ieee.{Float, nan}
+use borrow.Rule.Slice.PartMut.{put_mid}
+use Rattle.std.proofs.Math.Nat.{suc-add}
 use Rattle.layout.specs.declared.Layout.{Layout}
 use Rattle.bounds.specs.declared.Bounds.{Bounds}
 use Rattle.blocks.specs.declared.Blocks.{Blocks}
@@ -49,6 +51,20 @@ module _ (fs : List Float) (o : ℕ) (c : Bounds) where
 
     stored_box : box_from (stored fs o c) o ≡ c
     stored_box i = record { west = west i; east = east i; south = south i; north = north i }
+
+-- the same by a copy of its four floats over those that stand there
+stored_copy : (fs : List Float) (o : ℕ) (c : Bounds) → o + box_floats ≤ length fs
+    → put_mid o box_floats fs (c.west ∷ c.east ∷ c.south ∷ c.north ∷ []) ≡ stored fs o c
+stored_copy [] o c room = absurd (omega arith)
+stored_copy (u ∷ []) zero c room = absurd (omega arith)
+stored_copy (u ∷ v ∷ []) zero c room = absurd (omega arith)
+stored_copy (u ∷ v ∷ w ∷ []) zero c room = absurd (omega arith)
+stored_copy (u ∷ v ∷ w ∷ x ∷ fs) zero c room = refl
+stored_copy (u ∷ fs) (suc o) c room = simp suc-add (ap (λ gs. u ∷ gs) (stored_copy fs o c (omega arith)))
+
+pub stored_part : (fs : List Float) (o n : ℕ) (ys : List Float) (c : Bounds) → o + box_floats ≤ length fs → n ≡ box_floats
+    → ys ≡ c.west ∷ c.east ∷ c.south ∷ c.north ∷ [] → put_mid o n fs ys ≡ stored fs o c
+stored_part fs o n ys c room e f = rw (e, f) (stored_copy fs o c room)
 
 -- boxes are the same where the floats are
 pub same_box : (fs fs' : List Float) (o : ℕ) → ((j : ℕ) → o ≤ j → j < o + box_floats → get_or fs' j nan ≡ get_or fs j nan) → box_from fs' o ≡ box_from fs o

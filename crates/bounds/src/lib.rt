@@ -4,6 +4,8 @@
 ghost use Rattle.std.specs.Prelude.{◌≡◌};
 ghost use Rattle.bounds.specs.Bounds.{lesser, greater, of_none, widened, apart};
 
+use grid::Coord;
+
 // The grid's end.
 const REACH: f64 = 16777216.0;
 
@@ -29,50 +31,41 @@ impl Bounds {
     }
 
     // With one point more.
-    pub fn widened(self, x: f64, y: f64) -> Bounds
-        ensures { result ≡ widened self x y }
+    #[tactic(auto, unfolding(crate::specs::Bounds::widened))]
+    pub fn widened(self, c: Coord) -> Bounds
+        ensures { result ≡ widened self c.x c.y }
     {
         Bounds {
-            west: lesser(x, self.west),
-            east: greater(x, self.east),
-            south: lesser(y, self.south),
-            north: greater(y, self.north),
+            west: lesser(c.x, self.west),
+            east: greater(c.x, self.east),
+            south: lesser(c.y, self.south),
+            north: greater(c.y, self.north),
         }
     }
 
     // A side of one lies past a side of the other, so that no point lies within both. Sides that touch do not.
+    #[tactic(auto, unfolding(crate::specs::Bounds::apart))]
     pub fn apart(self, other: Bounds) -> bool
         ensures { result ≡ apart self other }
     {
-        if !(other.west <= self.east) {
-            return true;
-        }
-        if !(self.west <= other.east) {
-            return true;
-        }
-        if !(other.south <= self.north) {
-            return true;
-        }
-        !(self.south <= other.north)
+        !(other.west <= self.east)
+            || !(self.west <= other.east)
+            || !(other.south <= self.north)
+            || !(self.south <= other.north)
     }
 }
 
+// As it is: f64's min and max leave open which of -0.0 and 0.0 comes out, and the contract of widened says which.
 #[tactic(auto, unfolding(crate::specs::Bounds::lesser))]
 fn lesser(u: f64, v: f64) -> f64
     ensures { result ≡ lesser u v }
 {
-    if u <= v {
-        return u;
-    }
-    v
+    if u <= v { u } else { v }
 }
 
 #[tactic(auto, unfolding(crate::specs::Bounds::greater))]
 fn greater(u: f64, v: f64) -> f64
     ensures { result ≡ greater u v }
 {
-    if v <= u {
-        return u;
-    }
-    v
+    if v <= u { u } else { v }
 }

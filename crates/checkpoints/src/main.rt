@@ -2,8 +2,9 @@
 // tools/expect-checkpoints works out by exact arithmetic what must be printed.
 #![tactic(auto)]
 
+use grid::Coord;
 use rule::{PointIndex, Reason, Slot, SlotNumber};
-use std::io;
+use std::{fmt, io};
 use vscore::VScore;
 
 fn main(rt: HostRuntime) -> io::Result<()> {
@@ -155,71 +156,59 @@ fn slot_cases(rt: &impl Print) -> io::Result<()> {
 }
 
 fn on_grid(rt: &impl Print, v: f64) -> io::Result<()> {
-    print!(rt; "on_grid")?;
-    float(rt, v)?;
-    yes(rt, grid::on_grid(v))
+    println!(rt; "on_grid {} {}", Bits(v), yes(grid::on_grid(v)))
 }
 
+// As it is: tools/expect-checkpoints reads a case's six numbers from its call.
 fn area(rt: &impl Print, ax: f64, ay: f64, bx: f64, by: f64, cx: f64, cy: f64) -> io::Result<()> {
-    print!(rt; "area")?;
-    float(rt, grid::area(ax, ay, bx, by, cx, cy))?;
-    println!(rt; "")
+    let a = Coord { x: ax, y: ay };
+    let b = Coord { x: bx, y: by };
+    let c = Coord { x: cx, y: cy };
+    println!(rt; "area {}", Bits(grid::area(a, b, c)))
 }
 
 fn above(rt: &impl Print, a: f64, t: f64) -> io::Result<()> {
-    print!(rt; "above")?;
-    float(rt, a)?;
-    float(rt, t)?;
-    yes(rt, grid::above(a, t))
+    println!(rt; "above {} {} {}", Bits(a), Bits(t), yes(grid::above(a, t)))
 }
 
 fn sooner(rt: &impl Print, s: VScore, u: VScore) -> io::Result<()> {
-    print!(rt; "sooner")?;
-    score(rt, s)?;
-    score(rt, u)?;
-    yes(rt, s.sooner(u))
-}
-
-fn score(rt: &impl Print, s: VScore) -> io::Result<()> {
-    count(rt, s.left as u64)?;
-    count(rt, s.current as u64)?;
-    count(rt, s.right as u64)?;
-    float(rt, s.area)
+    println!(rt; "sooner {} {} {}", Shown(s), Shown(u), yes(s.sooner(u)))
 }
 
 fn reason(rt: &impl Print, w: Reason) -> io::Result<()> {
-    print!(rt; "reason")?;
-    count(rt, numbered::number(w) as u64)?;
-    count(rt, numbered::place(w) as u64)?;
-    println!(rt; "")
+    println!(rt; "reason {} {}", numbered::number(w), numbered::place(w))
 }
 
 fn part(rt: &impl Print, k: SlotNumber) -> io::Result<()> {
     let at = Slot::new(k);
-    print!(rt; "part")?;
-    count(rt, at.floats as u64)?;
-    count(rt, at.words as u64)?;
-    println!(rt; "")
+    println!(rt; "part {} {}", at.floats, at.words)
 }
 
-fn yes(rt: &impl Print, b: bool) -> io::Result<()> {
-    if b {
-        println!(rt; " yes")
-    } else {
-        println!(rt; " no")
+fn yes(b: bool) -> &'static str {
+    if b { "yes" } else { "no" }
+}
+
+// A float by its 64 bits.
+#[derive(Clone, Copy)]
+struct Bits(f64);
+
+impl fmt::Display for Bits {
+    fn fmt<W: fmt::Write>(&self, f: &mut fmt::Formatter<W>) -> fmt::Result {
+        if self.0.is_nan() {
+            write!(f, "nan")
+        } else {
+            write!(f, "{:016x}", bits::of(self.0))
+        }
     }
 }
 
-// A space and then a number; a float by its 64 bits.
-fn float(rt: &impl Print, v: f64) -> io::Result<()> {
-    if v == v {
-        let pattern = bits::of(v);
-        print!(rt; " {pattern:016x}")
-    } else {
-        print!(rt; " nan")
-    }
-}
+// A score by its three points and the bits of its area.
+#[derive(Clone, Copy)]
+struct Shown(VScore);
 
-fn count(rt: &impl Print, n: u64) -> io::Result<()> {
-    print!(rt; " {n}")
+impl fmt::Display for Shown {
+    fn fmt<W: fmt::Write>(&self, f: &mut fmt::Formatter<W>) -> fmt::Result {
+        let s = self.0;
+        write!(f, "{} {} {} {}", s.left, s.current, s.right, Bits(s.area))
+    }
 }

@@ -1,6 +1,6 @@
 -- What the links say of present segments is what the rule's `crosses` says over the lists of kept points. Assumes nothing.
 use mathlib.Core.Path.{◌≡◌, refl, sym, ap, ◌∙◌, subst}
-use mathlib.Core.Bool.{Bool, true, false, ◌||◌, or-true, false≢true}
+use mathlib.Core.Bool.{Bool, true, false, ◌||◌, or-true}
 use mathlib.Core.List.{List, [], ◌∷◌, ◌++◌}
 use mathlib.Core.Logic.{◌⊎◌, inl, inr}
 use Prim.Native.Nat.{ℕ, suc, ◌≤◌, ◌<◌}
@@ -11,13 +11,13 @@ use Rattle.rule.specs.Grid.{Point}
 use Rattle.rule.specs.Preserve.{against, against_ring, crosses}
 use Rattle.laws.proofs.Kept.{Up}
 use Rattle.layout.specs.declared.Layout.{Layout}
-use Rattle.layout.specs.Points.{PlacedIn}
+use Rattle.layout.specs.Points.{from, PlacedIn}
 use Rattle.links.specs.Words.{next_at, Starts}
 use Rattle.links.specs.Ring.{In, Then, Rings}
 use Rattle.links.proofs.Neighbours.{in_none, in_cons, then_first, then_further, then_back, next_unique}
 use Rattle.links.proofs.Ring.{ring_in, in_ring, ring_below, ring_up, next_is, is_next}
-use Rattle.segment.specs.Against.{opposed}
-use Rattle.crossing.specs.Crossing.{LeadsTo, StandsIs}
+use Rattle.segment.specs.Against.{opposed, AgainstIs}
+use Rattle.crossing.specs.Crossing.{AgainstAt}
 use Rattle.crossing.specs.Passing.{Crosses}
 
 -- ---- one ring
@@ -87,23 +87,25 @@ module _ (ps : List Point) (l r : ℕ) where
       swap true false c = refl
       swap false b c = refl
 
--- ---- one point
+-- ---- one segment
 
-module _ (m : Layout) (us vs : List Float) (ws : List ℕ) (l r : ℕ) (hl : l < m.points) (hr : r < m.points) {i j : ℕ} (hi : i < m.points) {c : Bool}
-    (e : LeadsTo ws m i j) (h : StandsIs m us vs i j l r c) where
-  pub stands_as : (ps : List Point) → PlacedIn us vs m ps → Starts ws m i → against ps l r i (next_at ws m i) ≡ c
+-- point i stands at u, v
+abbrev pub Stands : Layout → (us vs : List Float) → ℕ → (u v : Float) → Type 0
+Stands m us vs i u v = (u ≡ from us m.x i) × (v ≡ from vs m.y i)
+
+pub against_at : (m : Layout) (us vs : List Float) (i j l r : ℕ) {ax ay bx by lx ly rx ry : Float} {c : Bool} → Stands m us vs i ax ay → Stands m us vs j bx by
+    → Stands m us vs l lx ly → Stands m us vs r rx ry → AgainstIs ax ay bx by lx ly rx ry c → AgainstAt m us vs i j l r c
+against_at m us vs i j l r a b d e h = rw (a.0, a.1, b.0, b.1, d.0, d.1, e.0, e.1) at h
+
+-- a present segment starts at point i and ends at j
+module _ (m : Layout) (us vs : List Float) (ws : List ℕ) (l r : ℕ) (hl : l < m.points) (hr : r < m.points) {i j : ℕ} (hi : i < m.points)
+    (s : Starts ws m i) (e : j ≡ next_at ws m i) {c : Bool} (h : AgainstAt m us vs i j l r c) where
+  pub against_as : (ps : List Point) → PlacedIn us vs m ps → against ps l r i (next_at ws m i) ≡ c
   unfolding against
-  stands_as ps p s = go (dec_lt j m.points)
-    where
-      go : Dec (j < m.points) → against ps l r i (next_at ws m i) ≡ c
-      go (no w) = absurd (e.none (omega (arith, w)) s)
-      go (yes w) =
-          ap (against ps l r i) (sym (e.some w).1) ∙ (λ k. opposed (p.is i hi k) (p.is j w k) (p.is l hl k) (p.is r hr k))
-          ∙ sym (h.some w (p.on i hi) (p.on j w) (p.on l hl) (p.on r hr))
+  against_as ps p =
+      let w : j < m.points = omega (arith, e, s.ahead) in
+      ap (against ps l r i) (sym e) ∙ (λ k. opposed (p.is i hi k) (p.is j w k) (p.is l hl k) (p.is r hr k))
+      ∙ sym (h (p.on i hi) (p.on j w) (p.on l hl) (p.on r hr))
 
-  pub stands_crosses : c ≡ true → Crosses m us vs ws l r
-  stands_crosses z ps ends kss p rs = go (dec_lt j m.points)
-    where
-      go : Dec (j < m.points) → crosses ps l r kss ≡ true
-      go (no w) = absurd (false≢true (sym (h.none (omega (arith, w))) ∙ z))
-      go (yes w) = let s = (e.some w).0 in rings_true ps l r ws m 0 ends kss rs i (omega arith) hi s (stands_as ps p s ∙ z)
+  pub against_crosses : c ≡ true → Crosses m us vs ws l r
+  against_crosses z ps ends kss p rs = rings_true ps l r ws m 0 ends kss rs i (omega arith) hi s (against_as ps p ∙ z)

@@ -1,32 +1,11 @@
--- What the parts of the test promise: where a block ends, where to walk on in it, and what a walk finds. Assumes nothing.
-use Rattle.std.specs.Prelude.{◌≡◌, true, false, ◌&&◌, cond, List, ◌⊎◌, ℕ, ◌+◌, ◌≤◌, ◌<◌, ltb, Float}
+-- What a walk through the links finds. Assumes nothing.
+use Rattle.std.specs.Prelude.{◌≡◌, true, false, List, ℕ, ◌≤◌, ◌<◌, Float, Option, Some, None}
 use Rattle.rule.specs.Grid.{Point}
 use Rattle.rule.specs.Preserve.{against, crosses}
 use Rattle.layout.specs.declared.Layout.{Layout}
 use Rattle.layout.specs.Points.{PlacedIn}
 use Rattle.links.specs.Words.{next_at, Starts}
 use Rattle.links.specs.Ring.{Rings}
-use Rattle.bounds.specs.declared.Bounds.{Bounds}
-use Rattle.bounds.specs.Bounds.{apart}
-use Rattle.blocks.specs.declared.Blocks.{Blocks}
-use Rattle.blocks.specs.Boxes.{box_at}
-use Rattle.crossing.specs.declared.Walked.{Walked}
-use Rattle.crossing.specs.declared.Walked.TheVariants.{Against, Passed}
-
--- of n points, block k, which starts at `start`, ends at e; what is past the last block is one without a box
-pub record EndOf (b : Blocks) (k start n e : ℕ) : Type 0 where
-  pub up : start < e
-  pub within : e ≤ n
-  pub few : k < b.number → e ≤ start + b.size
-  pub all : (e ≡ start + b.size) ⊎ (e ≡ n)
-
--- where to walk on in block k, which ends at `end`, if the points below `from` are passed
-pub record SkipIs (fs : List Float) (b : Blocks) (k : ℕ) (new : Bounds) (from end r : ℕ) : Type 0 where
-  pub to : r ≡ cond (ltb from end && ltb k b.number && apart (box_at fs b k) new) end from
-
--- the point after i, or j, if that is one and further on
-abbrev pub BeyondIs : (i j n r : ℕ) → Type 0
-BeyondIs i j n r = (i < r) × ((r ≡ i + 1) ⊎ ((r ≡ j) × (j < n)))
 
 -- the links are those of rings, each by where it ends and what is kept of it
 pub record Ringed (ws : List ℕ) (m : Layout) : Type 0 where
@@ -47,9 +26,9 @@ pub record Walks (m : Layout) (us vs : List Float) (ws : List ℕ) (lo hi l r j 
 abbrev pub Crosses : Layout → (us vs : List Float) (ws : List ℕ) (l r : ℕ) → Type 0
 Crosses m us vs ws l r = (ps : List Point) (ends : List ℕ) (kss : List (List ℕ)) → PlacedIn us vs m ps → Rings ws m 0 m.points ends kss → crosses ps l r kss ≡ true
 
-abbrev pub WalkIs : Layout → (us vs : List Float) (ws : List ℕ) (lo hi l r : ℕ) → Walked → Type 0
-WalkIs m us vs ws lo hi l r Against = Crosses m us vs ws l r
-WalkIs m us vs ws lo hi l r (Passed j) = Walks m us vs ws lo hi l r j
+abbrev pub WalkIs : Layout → (us vs : List Float) (ws : List ℕ) (lo hi l r : ℕ) → Option ℕ → Type 0
+WalkIs m us vs ws lo hi l r None = Crosses m us vs ws l r
+WalkIs m us vs ws lo hi l r (Some j) = Walks m us vs ws lo hi l r j
 
-pub record WalkDone (m : Layout) (us vs : List Float) (ws : List ℕ) (lo hi l r : ℕ) (c : Walked) : Type 0 where
+pub record WalkDone (m : Layout) (us vs : List Float) (ws : List ℕ) (lo hi l r : ℕ) (c : Option ℕ) : Type 0 where
   pub walked : WalkIs m us vs ws lo hi l r c

@@ -8,8 +8,8 @@ use native.Mathlib.Omega.{arith}
 use lib.Dec.{eqb}
 use lib.ListN.{length, get_or}
 use lib.Ieee.{Float, nan}
-use Rattle.rule.specs.declared.Outcome.{Outcome}
-use Rattle.rule.specs.declared.Outcome.TheVariants.{Done}
+use Rattle.std.specs.Prelude.{⊤, Result, Ok}
+use Rattle.rule.specs.declared.Reason.{Reason}
 use Rattle.rule.specs.Sizes.{scratch_floats, scratch_words}
 use Rattle.rule.specs.Grid.{Point, points}
 use Rattle.rule.specs.Area.{zero_float, cleared}
@@ -58,7 +58,7 @@ keeps_from {n} {ks = ks} {out = out} {fs = fs} {fs₁ = fs₁} {ws = ws} {ws₁ 
 }
 
 -- a call whose tests found no reason
-module _ {o : Outcome} (us vs : List Float) (t : Float) (m : Lent) (told : o ≡ Done)
+module _ {o : Result ⊤ Reason} (us vs : List Float) (t : Float) (m : Lent) (told : o ≡ Ok tt)
     (tested : of_outcome o ≡ verdict (thin_reason us vs t (length m.out) (length m.floats) (length m.words)) (first_off_grid us vs)) where
   pub thins_done : {r : ℕ} {m' : Lent} (rule : List Point → Float → List ℕ) → Keeps (length us) (rule (points us vs) t) m r m' → Thins rule us vs t m (kept r) m'
   thins_done rule k = call_done (no_reason us vs t m told tested) (ap kept k.count) k.left

@@ -10,27 +10,8 @@ ghost use Rattle.links.specs.Ring.{all_unmarked};
 ghost use Rattle.ending.specs.Keeps.{Keeps};
 
 use layout::Layout;
+use links::Linked;
 use rule::Scratch;
-
-// Zeros in the first n places.
-pub fn zero_floats(floats: &mut [f64], n: usize)
-    requires { n ≤ length floats.old }
-    ensures { floats.new ≡ cleared zero_float n floats.old }
-{
-    for i in 0..n {
-        floats[i] = 0.0;
-    }
-}
-
-// Zeros in the first n places.
-pub fn zero_words(words: &mut [u32], n: usize)
-    requires { n ≤ length words.old }
-    ensures { words.new ≡ cleared 0 n words.old }
-{
-    for j in 0..n {
-        words[j] = 0;
-    }
-}
 
 // Zeros in the scratch of so many points.
 pub fn zero_scratch(floats: &mut [f64], words: &mut [u32], points: usize)
@@ -38,8 +19,8 @@ pub fn zero_scratch(floats: &mut [f64], words: &mut [u32], points: usize)
     ensures { (floats.new ≡ cleared zero_float (scratch_floats points) floats.old)
         × (words.new ≡ cleared 0 (scratch_words points) words.old) }
 {
-    zero_floats(floats, Scratch::FLOATS * points);
-    zero_words(words, Scratch::WORDS * points);
+    floats[..Scratch::FLOATS * points].fill(0.0);
+    words[..Scratch::WORDS * points].fill(0);
 }
 
 // How a call that thins so many points ends: the points left with no mark are listed, the scratch is zeroed. Gives how many.
@@ -48,7 +29,11 @@ pub fn finish(points: usize, out: &mut [u32], floats: &mut [f64], words: &mut [u
     ensures { Keeps points (all_unmarked words.old (scratch_of points)) (lent out.old floats.old words.old)
         result (lent out.new floats.new words.new) }
 {
-    let count = links::list_kept(words, Layout::scratch(points), out);
+    let links = Linked {
+        words,
+        m: Layout::scratch(points),
+    };
+    let count = links.list_kept(out);
     zero_scratch(floats, words, points);
     count as u32
 }

@@ -7,18 +7,15 @@ use native.Mathlib.Nat.{mul-le-mul_left, mul-le-mul_right, le_of_lt}
 use native.Mathlib.Omega.{arith}
 use lib.Dec.{leb, lit≤}
 use lib.IntN.{ℤ, pos, neg_ℤ, nat_abs, ◌-ℤ◌, +ℤ-neg_ℤ_cancel}
-use lib.Ieee.{Float, binary64, sub, mul}
+use lib.Ieee.{Float}
 use borrow.Author.Tests.{leb-true, leb-false}
 use Rattle.ring.proofs.Ring.{E, v, ◌⊕◌, ◌⊖◌, ◌⊗◌, ring}
 use Rattle.rule.specs.Sizes.{reach}
 use Rattle.rule.specs.Grid.{Point, signed, point_of, turn, area2}
 use Rattle.grid.specs.On.{On}
+use Rattle.grid.specs.Cross.{cross}
 use Rattle.grid.proofs.Signs.{abs_signed, less_up, less_down}
 use Rattle.grid.proofs.Whole.{Whole, on_grid_lem, sub_whole, mul_whole}
-
--- as the code has it
-abbrev pub cross : (ax ay bx by cx cy : Float) → Float
-cross ax ay bx by cx cy = sub binary64 (mul binary64 (sub binary64 bx ax) (sub binary64 cy ay)) (mul binary64 (sub binary64 by ay) (sub binary64 cx ax))
 
 pub turn_is : {ax ay bx by cx cy : Float} → On ax ay → On bx by → On cx cy
     → Whole (cross ax ay bx by cx cy) (turn (point_of ax ay) (point_of bx by) (point_of cx cy)) (2 ^ 51)

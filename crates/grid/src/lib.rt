@@ -6,42 +6,44 @@ ghost use Rattle.std.specs.Float.Ieee.{lt};
 ghost use Rattle.rule.specs.Grid.{on_grid, point_of, area2, half};
 ghost use Rattle.rule.specs.Segment.{same};
 ghost use Rattle.grid.specs.On.{On};
+ghost use Rattle.grid.specs.Cross.{cross};
 
 // 1.5 * 2^52. A sum of it and a number of the grid's size lies between 2^52 and 2^53, where every f64 is whole.
 const SHIFT: f64 = 6755399441055744.0;
+
+// A point by its coordinates.
+#[derive(Clone, Copy, PartialEq)]
+pub struct Coord {
+    pub x: f64,
+    pub y: f64,
+}
 
 // v is a whole number from -2^24 to 2^24.
 pub fn on_grid(v: f64) -> bool
     ensures { result ≡ on_grid v }
 {
-    if v < 16777217.0 {
-        if -16777217.0 < v {
-            return (v + SHIFT) - SHIFT == v;
-        }
-    }
-    false
+    -16777217.0 < v && v < 16777217.0 && (v + SHIFT) - SHIFT == v
 }
 
 // Equal by coordinates: -0.0 and 0.0 are.
-pub fn same(ax: f64, ay: f64, bx: f64, by: f64) -> bool
-    ensures { On ax ay → On bx by → result ≡ same (point_of ax ay) (point_of bx by) }
+pub fn same(a: Coord, b: Coord) -> bool
+    ensures { On a.x a.y → On b.x b.y → result ≡ same (point_of a.x a.y) (point_of b.x b.y) }
 {
-    if ax == bx {
-        return ay == by;
-    }
-    false
+    a == b
+}
+
+// The cross product of the sides from a to b and from a to c: exact where the points are on the grid, twice the area with a sign.
+pub fn turn(a: Coord, b: Coord, c: Coord) -> f64
+    ensures { result ≡ cross a.x a.y b.x b.y c.x c.y }
+{
+    (b.x - a.x) * (c.y - a.y) - (b.y - a.y) * (c.x - a.x)
 }
 
 // The area of the triangle a b c: exact where the points are on the grid.
-pub fn area(ax: f64, ay: f64, bx: f64, by: f64, cx: f64, cy: f64) -> f64
-    ensures { On ax ay → On bx by → On cx cy → result ≡ half (area2 (point_of ax ay) (point_of bx by) (point_of cx cy)) }
+pub fn area(a: Coord, b: Coord, c: Coord) -> f64
+    ensures { On a.x a.y → On b.x b.y → On c.x c.y → result ≡ half (area2 (point_of a.x a.y) (point_of b.x b.y) (point_of c.x c.y)) }
 {
-    let d = (bx - ax) * (cy - ay) - (by - ay) * (cx - ax);
-    if d < 0.0 {
-        return -d * 0.5;
-    }
-    // d may be -0.0
-    (d + 0.0) * 0.5
+    turn(a, b, c).abs() * 0.5
 }
 
 // The area is greater than the tolerance.

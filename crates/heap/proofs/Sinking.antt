@@ -83,7 +83,7 @@ module _ {fs : List Float} {ws : List ℕ} {m : Layout} {n : ℕ} {s : VScore} {
   down_end h σ φ f k p l e = absurd (omega arith)
 
   -- the first of those below j, at i
-  module _ {c i : ℕ} (ce : c ≡ children * j + 1) (fo : FirstOf fs' ws' m c n i) where
+  module _ {i : ℕ} (fo : FirstOf fs' ws' m (children * j + 1) n i) where
     least : (σ : Scale) → Faithful σ → AllProper σ (suc n) old → Above (Le σ) n h j (h i)
     least σ φ f k p l e = fo.first σ φ (λ x a b. at_proper σ f x b (λ z. omega arith)) k (omega arith) (omega arith) l
 

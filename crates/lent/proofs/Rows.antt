@@ -1,6 +1,6 @@
 -- What it says of the input that no reason applies. Assumes nothing.
 use mathlib.Core.Path.{◌≡◌, refl}
-use mathlib.Core.Bool.{Bool, true, false, ◌||◌, true≢false}
+use mathlib.Core.Bool.{true, false, ◌||◌}
 use mathlib.Core.List.{List, [], ◌∷◌, ◌++◌}
 use mathlib.Core.Option.{Option, none, some}
 use Prim.Native.Nat.{ℕ, ◌≤◌}
@@ -8,6 +8,7 @@ use lib.Dec.{ltb, eqb}
 use lib.ListN.{length}
 use lib.Ieee.{Float}
 use borrow.Author.Tests.{eqb-true, ltb-false, not-false}
+use Rattle.std.proofs.lemmas.Bool.{or_parts}
 use Rattle.rule.specs.Sizes.{most_points, scratch_floats, scratch_words}
 use Rattle.rule.specs.Grid.{is_finite}
 use Rattle.rule.specs.Reasons.{Row, first_of, is_some, first_off_grid, lengths_differ, too_many_points, some_off_grid, output_short, scratch_short, line_rows, repeat_reason}
@@ -47,12 +48,7 @@ module _ (us vs : List Float) (room : ℕ) (e : repeat_reason us vs room ≡ 0) 
 
 -- neither of two lent slices is short: what 7 and 8 say of an output, a scratch, a work area
 pub room_for : (m n p q : ℕ) → (ltb m n || ltb p q) ≡ false → (n ≤ m) × (q ≤ p)
-room_for m n p q e = go (ltb m n) (ltb p q) refl refl e
-  where
-    go : (a b : Bool) → ltb m n ≡ a → ltb p q ≡ b → (a || b) ≡ false → (n ≤ m) × (q ≤ p)
-    go false false f g e = (ltb-false m n f, ltb-false p q g)
-    go false true f g e = absurd (true≢false e)
-    go true b f g e = absurd (true≢false e)
+room_for m n p q e = let h = or_parts (ltb m n) (ltb p q) e in (ltb-false m n h.0, ltb-false p q h.1)
 
 -- no reason of a line, room in the output, and no reason of the scratch
 pub ready_of : (us vs : List Float) (t : Float) (m : Lent) (rs : List Row) → NoneApplies (line_rows us vs t ++ rs) → length us ≤ length m.out

@@ -1,49 +1,41 @@
--- The search for a point off the grid, from any index on, and what it says of the points. Assumes nothing.
-use mathlib.Core.Path.{◌≡◌, refl, ap}
-use mathlib.Core.Bool.{Bool, true, false, ◌&&◌, cond, true≢false}
+-- The search for a point off the grid is the library's, and what it says of the points. Assumes nothing.
+use mathlib.Core.Path.{◌≡◌, refl, ap, ◌∙◌}
+use mathlib.Core.Bool.{Bool, true, false, not, ◌&&◌, cond, true≢false}
 use mathlib.Core.List.{List, [], ◌∷◌}
 use mathlib.Core.Option.{Option, none, some}
-use Prim.Native.Nat.{ℕ, zero, suc, ◌+◌, ◌<◌, ◌≤◌}
+use Prim.Native.Nat.{ℕ, zero, suc, ◌+◌, ◌<◌}
 use native.Mathlib.Omega.{arith}
 use native.Mathlib.Numerals.{add-one}
 use lib.Dec.{T}
-use lib.ListN.{length, get_or, drop, drop_of_length-le}
-use lib.Seq.{drop-cons}
+use lib.ListN.{length, get_or}
 use lib.Ieee.{Float, nan}
+use Rattle.std.specs.Prelude.{Some, position}
+use Rattle.std.specs.List.{position_from, zip}
+use Rattle.std.proofs.lemmas.Iterator.Adapters.{position_from-zero}
 use Rattle.rule.specs.Grid.{on_grid}
 use Rattle.rule.specs.Reasons.{off_grid_from, first_off_grid, is_some}
 use Rattle.grid.specs.On.{On}
+use Rattle.lent.specs.Found.{of_found}
 
--- what is still to be searched at i
-abbrev pub rest : List Float → List Float → ℕ → Option ℕ
-rest us vs i = off_grid_from i (drop i us) (drop i vs)
+-- a place is off the grid
+abbrev pub off : Float × Float → Bool
+off w = not (on_grid w.0 && on_grid w.1)
 
-pub end_x : (us vs : List Float) (i : ℕ) → length us ≤ i → rest us vs i ≡ none
+-- the definition's search is the library's, of the lists side by side
+scan_from : (k : ℕ) (us vs : List Float) → of_found (position_from off k (zip us vs)) ≡ off_grid_from k us vs
 unfolding off_grid_from
-end_x us vs i h = rw (drop_of_length-le us h)
-
-pub end_y : (us vs : List Float) (i : ℕ) → length vs ≤ i → rest us vs i ≡ none
-unfolding off_grid_from
-end_y us vs i h = rw (drop_of_length-le vs h) (none_left (drop i us))
+scan_from k [] vs = refl
+scan_from k (u ∷ us) [] = refl
+scan_from k (u ∷ us) (v ∷ vs) = go (on_grid u && on_grid v) (scan_from (suc k) us vs)
   where
-    none_left : (ws : List Float) → off_grid_from i ws [] ≡ none
-    none_left [] = refl
-    none_left (w ∷ ws) = refl
+    go : (b : Bool) → of_found (position_from off (suc k) (zip us vs)) ≡ off_grid_from (suc k) us vs
+        → of_found (cond (not b) (Some k) (position_from off (k + 1) (zip us vs))) ≡ cond b (off_grid_from (suc k) us vs) (some k)
+    go true e = rw add-one e
+    go false e = refl
 
--- the test at i decides
-module _ (us vs : List Float) (i : ℕ) (h : i < length us) (k : i < length vs) where
-  decided : (b : Bool) → (on_grid (get_or us i nan) && on_grid (get_or vs i nan)) ≡ b → rest us vs i ≡ cond b (rest us vs (i + 1)) (some i)
-  unfolding off_grid_from
-  decided b e = rw (drop-cons us i nan h, drop-cons vs i nan k, add-one, e)
-
-  pub off_x : on_grid (get_or us i nan) ≡ false → rest us vs i ≡ some i
-  off_x e = decided false (rw e)
-
-  pub off_y : on_grid (get_or us i nan) ≡ true → on_grid (get_or vs i nan) ≡ false → rest us vs i ≡ some i
-  off_y e f = decided false (rw (e, f))
-
-  pub on_both : on_grid (get_or us i nan) ≡ true → on_grid (get_or vs i nan) ≡ true → rest us vs i ≡ rest us vs (i + 1)
-  on_both e f = decided true (rw (e, f))
+pub scan : (us vs : List Float) → of_found (position off (zip us vs)) ≡ first_off_grid us vs
+unfolding first_off_grid
+scan us vs = ap of_found (position_from-zero off (zip us vs)) ∙ scan_from 0 us vs
 
 -- ---- what is found stands among the points
 

@@ -2,16 +2,17 @@
 use mathlib.Core.Path.{◌≡◌, refl, sym, ap, ◌∙◌, subst}
 use mathlib.Core.Bool.{Bool, true, false, cond}
 use mathlib.Core.List.{List, [], ◌∷◌, ◌++◌, append-nil}
-use Prim.Native.Nat.{ℕ, ◌+◌, ◌≤◌, ◌<◌, min}
+use Prim.Native.Nat.{ℕ, zero, suc, ◌+◌, ◌≤◌, ◌<◌, min}
 use native.Mathlib.Nat.{zero-add}
 use native.Mathlib.Omega.{arith}
 use lib.Dec.{eqb}
-use lib.ListN.{length, set, take, length-append, length-take, length-set}
+use lib.ListN.{length, get_or, set, take, length-append, length-take}
 use lib.Seq.{take_all, take-nil, take-append-le}
+use Rattle.std.specs.List.{count_by, filter}
+use Rattle.std.proofs.lemmas.List.Sums.{length-filter}
 use Rattle.layout.specs.declared.Layout.{Layout}
 use Rattle.rule.specs.Whole.{over}
 use Rattle.laws.proofs.Over.{over_more}
-use Rattle.links.specs.Words.{mark_at}
 use Rattle.links.specs.Ring.{kept_from, all_unmarked}
 use Rattle.links.specs.Calls.{Listed}
 use Rattle.links.proofs.Marks.{kept_append}
@@ -32,64 +33,49 @@ module _ (mark : ℕ → ℕ) (i : ℕ) where
 
 -- ---- counted
 
-pub record Counting (mark : ℕ → ℕ) (n i c : ℕ) : Type 0 where
-  pub few : c ≤ i
-  pub top : i ≤ n
-  pub number : c ≡ length (kept_from mark 0 i)
-
-pub counting_start : (mark : ℕ → ℕ) (n : ℕ) → Counting mark n 0 0
+-- as many as those of n marks in a row, from that of point i on, which are 0
+pub kept_counted : (mark : ℕ → ℕ) (i n : ℕ) (xs : List ℕ) → length xs ≡ n → ((k : ℕ) → k < n → get_or xs k 0 ≡ mark (i + k))
+    → length (kept_from mark i n) ≡ count_by (λ x. eqb x 0) xs
 unfolding kept_from
-counting_start mark n = record { few = omega arith; top = omega arith; number = refl }
-
-module _ {mark : ℕ → ℕ} {n i c : ℕ} (s : Counting mark n i c) (l : i < n) where
-  pub counting_kept : eqb (mark i) 0 ≡ true → Counting mark n (i + 1) (c + 1)
-  counting_kept e = record {
-    few = omega (arith, s.few);
-    top = omega arith;
-    number = ap (λ (x : ℕ). x + 1) s.number ∙ sym (ap length (kept_one mark i e) ∙ length-append (kept_from mark 0 i) (i ∷ []));
-  }
-
-  pub counting_gone : eqb (mark i) 0 ≡ false → Counting mark n (i + 1) c
-  counting_gone e = record { few = omega (arith, s.few); top = omega arith; number = s.number ∙ sym (ap length (kept_none mark i e)) }
-
-pub counting_end : {mark : ℕ → ℕ} {n i c : ℕ} → Counting mark n i c → n ≤ i → c ≡ length (kept_from mark 0 n)
-counting_end {mark} {n} {i} s h = let e : i ≡ n = omega (arith, s.top) in s.number ∙ ap (λ (k : ℕ). length (kept_from mark 0 k)) e
-
-pub counting_as : {mark : ℕ → ℕ} {n i c c' : ℕ} → c' ≡ c → Counting mark n i c → Counting mark n i c'
-counting_as {mark} {n} {i} e s = subst (Counting mark n i) (sym e) s
+kept_counted mark i n xs l h = go i n xs l h ∙ length-filter (λ x. eqb x 0) xs
+  where
+    go : (i n : ℕ) (xs : List ℕ) → length xs ≡ n → ((k : ℕ) → k < n → get_or xs k 0 ≡ mark (i + k)) → length (kept_from mark i n) ≡ length (filter (λ x. eqb x 0) xs)
+    go i zero [] l h = refl
+    go i zero (x ∷ xs) l h = absurd (omega arith)
+    go i (suc n) [] l h = absurd (omega arith)
+    go i (suc n) (x ∷ xs) l h =
+        let e : x ≡ mark i = h 0 (omega arith) ∙ ap mark (omega arith) in
+        rw e (step (eqb (mark i) 0) (go (suc i) n xs (omega arith) (λ k q. h (suc k) (omega arith) ∙ ap mark (omega arith))))
+      where
+        step : (b : Bool) → length (kept_from mark (suc i) n) ≡ length (filter (λ x. eqb x 0) xs)
+            → length (cond b (i ∷ kept_from mark (suc i) n) (kept_from mark (suc i) n)) ≡ length (cond b (mark i ∷ filter (λ x. eqb x 0) xs) (filter (λ x. eqb x 0) xs))
+        step true r = ap suc r
+        step false r = r
 
 -- ---- listed
 
-pub record Listing (mark : ℕ → ℕ) (n : ℕ) (out out' : List ℕ) (i c : ℕ) : Type 0 where
-  pub few : c ≤ i
-  pub top : i ≤ n
-  pub same : length out' ≡ length out
+-- of the points before i those without a mark, as many as there is room for, from the start of out
+pub record Listing (mark : ℕ → ℕ) (out out' : List ℕ) (i c : ℕ) : Type 0 where
   pub number : c ≡ length (take (length out) (kept_from mark 0 i))
   pub list : out' ≡ over (take (length out) (kept_from mark 0 i)) out
 
-pub listing_start : (mark : ℕ → ℕ) (n : ℕ) (out : List ℕ) → Listing mark n out out 0 0
+pub listing_start : (mark : ℕ → ℕ) (out : List ℕ) → Listing mark out out 0 0
 unfolding kept_from
-listing_start mark n out = record { few = omega arith; top = omega arith; same = refl; number = rw take-nil; list = rw take-nil }
+listing_start mark out = record { number = rw take-nil; list = rw take-nil }
 
-module _ {mark : ℕ → ℕ} {n : ℕ} {out out' : List ℕ} {i c : ℕ} (s : Listing mark n out out' i c) (l : i < n) where
+module _ {mark : ℕ → ℕ} {out out' : List ℕ} {i c : ℕ} (s : Listing mark out out' i c) where
   kept : List ℕ
   kept = kept_from mark 0 i
 
-  pub listing_kept : eqb (mark i) 0 ≡ true → c < length out' → Listing mark n out (set out' c i) (i + 1) (c + 1)
+  pub listing_kept : eqb (mark i) 0 ≡ true → c < length out → Listing mark out (set out' c i) (i + 1) (c + 1)
   unfolding kept
-  listing_kept e h = record {
-    few = omega (arith, s.few);
-    top = omega arith;
-    same = length-set out' c i ∙ s.same;
-    number = number;
-    list = list;
-  }
+  listing_kept e h = record { number = number; list = list }
     where
       size : length (take (length out) kept) ≡ min (length out) (length kept)
       size = length-take (length out) kept
 
       fits : length kept < length out
-      fits = omega (arith, size, s.number, s.same)
+      fits = omega (arith, size, s.number)
 
       whole : take (length out) kept ≡ kept
       whole = take_all (length out) kept (omega (arith, fits))
@@ -109,35 +95,21 @@ module _ {mark : ℕ → ℕ} {n : ℕ} {out out' : List ℕ} {i c : ℕ} (s : L
           ∙ over_more kept out i fits ∙ ap (λ (x : List ℕ). over x out) (sym longer)
 
   -- the list is as it was
-  unchanged : take (length out) (kept_from mark 0 (i + 1)) ≡ take (length out) (kept_from mark 0 i) → Listing mark n out out' (i + 1) c
-  unchanged e = record {
-    few = omega (arith, s.few);
-    top = omega arith;
-    same = s.same;
-    number = s.number ∙ ap length (sym e);
-    list = s.list ∙ ap (λ (x : List ℕ). over x out) (sym e);
-  }
+  unchanged : take (length out) (kept_from mark 0 (i + 1)) ≡ take (length out) (kept_from mark 0 i) → Listing mark out out' (i + 1) c
+  unchanged e = record { number = s.number ∙ ap length (sym e); list = s.list ∙ ap (λ (x : List ℕ). over x out) (sym e) }
 
-  pub listing_full : eqb (mark i) 0 ≡ true → length out' ≤ c → Listing mark n out out' (i + 1) c
+  pub listing_full : eqb (mark i) 0 ≡ true → length out ≤ c → Listing mark out out' (i + 1) c
   listing_full e h =
       let size : length (take (length out) (kept_from mark 0 i)) ≡ min (length out) (length (kept_from mark 0 i)) = length-take (length out) (kept_from mark 0 i) in
-      let full : length out ≤ length (kept_from mark 0 i) = omega (arith, s.number, s.same) in
+      let full : length out ≤ length (kept_from mark 0 i) = omega (arith, s.number) in
       unchanged (ap (take (length out)) (kept_one mark i e) ∙ take-append-le (length out) (kept_from mark 0 i) (i ∷ []) full)
 
-  pub listing_gone : eqb (mark i) 0 ≡ false → Listing mark n out out' (i + 1) c
+  pub listing_gone : eqb (mark i) 0 ≡ false → Listing mark out out' (i + 1) c
   listing_gone e = unchanged (ap (take (length out)) (kept_none mark i e))
 
-pub listing_end : (ws : List ℕ) (m : Layout) {out out' : List ℕ} {i c : ℕ} → Listing (mark_at ws m) m.points out out' i c → m.points ≤ i → Listed ws m out out' c
-listing_end ws m {out} {out'} {i} {c} s h =
-    let e : i ≡ m.points = omega (arith, s.top) in
-    record {
-      number = s.number ∙ ap (λ (k : ℕ). length (take (length out) (kept_from (mark_at ws m) 0 k))) e;
-      list = s.list ∙ ap (λ (k : ℕ). over (take (length out) (kept_from (mark_at ws m) 0 k)) out) e;
-    }
-
-pub listing_as : {mark : ℕ → ℕ} {n : ℕ} {out₀ out out' : List ℕ} {i c c' : ℕ} → out' ≡ out → c' ≡ c → Listing mark n out₀ out i c → Listing mark n out₀ out' i c'
-listing_as {mark} {n} {out₀} {out} {out'} {i} {c} {c'} a e s =
-    subst (λ (x : List ℕ). Listing mark n out₀ x i c') (sym a) (subst (λ (x : ℕ). Listing mark n out₀ out i x) (sym e) s)
+pub listing_as : {mark : ℕ → ℕ} {out₀ out out' : List ℕ} {i c c' : ℕ} → out' ≡ out → c' ≡ c → Listing mark out₀ out i c → Listing mark out₀ out' i c'
+listing_as {mark} {out₀} {out} {out'} {i} {c} {c'} a e s =
+    subst (λ (x : List ℕ). Listing mark out₀ x i c') (sym a) (subst (λ (x : ℕ). Listing mark out₀ out i x) (sym e) s)
 
 -- ---- with room for all
 

@@ -7,7 +7,6 @@ use Prim.Native.Nat.{ℕ, ◌+◌, ◌-◌, ◌≤◌, ◌<◌}
 use native.Mathlib.Decide.{ℕ_discrete}
 use native.Mathlib.Omega.{arith}
 use lib.Dec.{ltb}
-use lib.ListN.{length, length-set}
 use borrow.Author.Tests.{ltb-true, ltb-false}
 use Rattle.layout.specs.declared.Layout.{Layout}
 use Rattle.rule.specs.Plain.{indices}
@@ -76,58 +75,35 @@ module _ {previous next mark : ℕ → ℕ} {lo hi n : ℕ} (from : lo ≤ hi) (
 
 -- ---- the loop
 
+-- the points from lo to i have such links, and no other point's changed
 pub record Linking (ws : List ℕ) (m : Layout) (lo hi : ℕ) (ws' : List ℕ) (i : ℕ) : Type 0 where
-  pub room : HasLinks m ws
-  pub from : lo ≤ hi
-  pub to : hi ≤ m.points
-  pub size : length ws' ≡ length ws
-  pub low : lo ≤ i
-  pub high : i ≤ hi
   pub so_far : (k : ℕ) → lo ≤ k → k < i → WholeAt ws' m lo hi k
   pub only : OnlyLinks ws m lo hi ws'
 
-pub linking_start : {ws : List ℕ} {m : Layout} {lo hi : ℕ} → HasLinks m ws → lo ≤ hi → hi ≤ m.points → Linking ws m lo hi ws lo
-linking_start {ws} {m} {lo} {hi} r l h = record {
-  room = r;
-  from = l;
-  to = h;
-  size = refl;
-  low = omega arith;
-  high = l;
-  so_far = λ k p q. absurd (omega arith);
-  only = only_self ws m lo hi;
-}
+pub linking_start : (ws : List ℕ) (m : Layout) (lo hi : ℕ) → Linking ws m lo hi ws lo
+linking_start ws m lo hi = record { so_far = λ k p q. absurd (omega arith); only = only_self ws m lo hi }
 
-module _ {ws : List ℕ} {m : Layout} {lo hi : ℕ} {ws' : List ℕ} {i : ℕ} (s : Linking ws m lo hi ws' i) where
-  linking_room : HasLinks m ws'
-  linking_room = omega (arith, s.room, s.size)
-
-  pub linking_more : i < hi → {p q : ℕ} → p ≡ back lo m.points i → q ≡ ahead hi m.points i → {ws'' : List ℕ} → ws'' ≡ linked_as ws' m i p q
-      → Linking ws m lo hi ws'' (i + 1)
-  linking_more l {p} {q} ep eq e = subst (λ (x : List ℕ). Linking ws m lo hi x (i + 1)) (sym e) (record {
-    room = s.room;
-    from = s.from;
-    to = s.to;
-    size = simp length-set s.size;
-    low = omega (arith, s.low);
-    high = omega arith;
+module _ {ws : List ℕ} {m : Layout} {lo hi : ℕ} {ws' : List ℕ} {i : ℕ} (s : Linking ws m lo hi ws' i) (to : hi ≤ m.points) where
+  pub linking_more : HasLinks m ws' → lo ≤ i → i < hi → {p q : ℕ} → p ≡ back lo m.points i → q ≡ ahead hi m.points i → {ws'' : List ℕ}
+      → ws'' ≡ linked_as ws' m i p q → Linking ws m lo hi ws'' (i + 1)
+  linking_more room low l {p} {q} ep eq e = subst (λ (x : List ℕ). Linking ws m lo hi x (i + 1)) (sym e) (record {
     so_far = λ k a b. at k a b (ℕ_discrete k i);
-    only = only_then s.only (linked_only ws' m i p q lo hi s.low l s.to);
+    only = only_then s.only (linked_only ws' m i p q lo hi low l to);
   })
     where
       here : i < m.points
-      here = omega (arith, s.to)
+      here = omega arith
 
       at : (k : ℕ) → lo ≤ k → k < i + 1 → Dec (k ≡ i) → WholeAt (linked_as ws' m i p q) m lo hi k
       at k a b (yes z) = subst (WholeAt (linked_as ws' m i p q) m lo hi) (sym z) (record {
-        behind = linked_previous ws' m i p q linking_room here ∙ ep;
-        before = linked_next ws' m i p q linking_room here ∙ eq;
-        clear = linked_mark ws' m i p q linking_room here;
+        behind = linked_previous ws' m i p q room here ∙ ep;
+        before = linked_next ws' m i p q room here ∙ eq;
+        clear = linked_mark ws' m i p q room here;
       })
       at k a b (no ne) =
-          let o = linked_others ws' m i p q k (omega (arith, s.to)) here ne in
+          let o = linked_others ws' m i p q k (omega arith) here ne in
           let f = s.so_far k a (omega (arith, ne)) in
           record { behind = o.previous ∙ f.behind; before = o.next ∙ f.before; clear = o.mark ∙ f.clear }
 
-  pub linking_end : hi ≤ i → Joined ws m lo hi ws'
-  linking_end l = record { ring = whole_ring s.from s.to (λ k p q. s.so_far k p (omega arith)); only = s.only }
+  pub linking_end : lo ≤ hi → hi ≤ i → Joined ws m lo hi ws'
+  linking_end from l = record { ring = whole_ring from to (λ k p q. s.so_far k p (omega arith)); only = s.only }

@@ -1,5 +1,6 @@
 -- What a text says from a place on. A text is a list of bytes, and past its end it goes on as a line ends. Assumes nothing.
 use Rattle.std.specs.Prelude.{◌≡◌, ℕ, zero, suc, ◌+◌, ◌-◌, ◌*◌, ◌%◌, ◌^◌, min, Bool, cond, ◌&&◌, ◌||◌, List, [], ◌∷◌, ◌++◌, length, drop, pos, ◌==◌, from_bits, nat_le, slice_index_or, Float}
+use Rattle.std.specs.List.{prefix_len, position_or_len, take_while, fold}
 use Rattle.std.specs.Float.{binary64}
 use Rattle.std.specs.Float.Ieee.{of_int, neg}
 
@@ -9,9 +10,8 @@ byte_at text at = slice_index_or text at 10
 -- ---- lines
 
 -- how many bytes the first line of a text has, its end counted
-unfoldable pub line_length : List ℕ → ℕ
-line_length [] = 0
-line_length (b ∷ t) = cond (b == 10) 1 (suc (line_length t))
+abbrev pub line_length : List ℕ → ℕ
+line_length t = min (position_or_len (λ b. b == 10) t + 1) (length t)
 
 abbrev pub next_line : List ℕ → ℕ → ℕ
 next_line text at = at + line_length (drop at text)
@@ -24,23 +24,17 @@ is_blank b = b == 32
 abbrev pub is_digit : ℕ → Bool
 is_digit b = nat_le 48 b && nat_le b 57
 
--- how many bytes of a kind a text starts with
-unfoldable pub run : (ℕ → Bool) → List ℕ → ℕ
-run kind [] = 0
-run kind (b ∷ t) = cond (kind b) (suc (run kind t)) 0
-
 -- the first place from here on whose byte is not of the kind
 abbrev pub past : (ℕ → Bool) → List ℕ → ℕ → ℕ
-past kind text at = at + run kind (drop at text)
+past kind text at = at + prefix_len kind (drop at text)
 
 -- v with one more digit, or the greatest number of 64 bits where that is more
 abbrev pub with_digit : ℕ → ℕ → ℕ
 with_digit v b = min (v * 10 + (b - 48)) (2 ^ 64 - 1)
 
 -- v with all the digits that a text starts with
-unfoldable pub with_digits : ℕ → List ℕ → ℕ
-with_digits v [] = v
-with_digits v (b ∷ t) = cond (is_digit b) (with_digits (with_digit v b) t) v
+abbrev pub with_digits : ℕ → List ℕ → ℕ
+with_digits v t = fold with_digit v (take_while is_digit t)
 
 -- Blanks may stand before a number. No digit at all says 0.
 abbrev pub number : List ℕ → ℕ → ℕ
@@ -61,23 +55,22 @@ whole text at = of_int binary64 (pos (number text at))
 -- a whole number, `-` and one, or `b` and the 64 bits, from the first place that is no blank
 abbrev pub coordinate_from : List ℕ → ℕ → Float
 coordinate_from text p =
-    cond (byte_at text p == 98) (from_bits binary64 (number text (suc p)))
-    (cond (byte_at text p == 45) (neg (whole text (suc p))) (whole text p))
+    cond (byte_at text p == 98) (from_bits binary64 (number text (p + 1)))
+    (cond (byte_at text p == 45) (neg (whole text (p + 1))) (whole text p))
 
 abbrev pub coordinate : List ℕ → ℕ → Float
 coordinate text at = coordinate_from text (past is_blank text at)
 
 abbrev pub past_coordinate : List ℕ → ℕ → ℕ
-past_coordinate text at = let p = past is_blank text at in cond (byte_at text p == 98 || byte_at text p == 45) (past_number text (suc p)) (past_number text p)
+past_coordinate text at = let p = past is_blank text at in cond (byte_at text p == 98 || byte_at text p == 45) (past_number text (p + 1)) (past_number text p)
 
 -- ---- several, one after another: `next` gives the place past the one at a place, `value` what it says
 
-unfoldable pub past_all : (ℕ → ℕ) → ℕ → ℕ → ℕ
+abbrev pub past_all : (ℕ → ℕ) → ℕ → ℕ → ℕ
 past_all next at zero = at
 past_all next at (suc n) = next (past_all next at n)
 
-unfoldable pub all : {A : Type 0} → (ℕ → A) → (ℕ → ℕ) → ℕ → ℕ → List A
-unfolding past_all
+abbrev pub all : {A : Type 0} → (ℕ → A) → (ℕ → ℕ) → ℕ → ℕ → List A
 all value next at zero = []
 all value next at (suc n) = all value next at n ++ (value (past_all next at n) ∷ [])
 

@@ -1,13 +1,12 @@
 // Reads numbers from lines of text, where blanks part them. What is missing at a line's end reads as 0.
 #![tactic(auto)]
 
-ghost use Rattle.std.specs.Prelude.{◌≡◌, ◌%◌, min, T, ◌==◌, from_bits};
-ghost use Rattle.std.specs.Float.{binary64};
+ghost use Rattle.std.specs.Prelude.{◌≡◌, ℕ, min, Bool, List, length, drop, take_while, ◌≤◌, ◌==◌};
+ghost use Rattle.std.specs.List.{prefix_len};
 ghost use Rattle.numbers.specs.Reading.{
   byte_at,
   next_line,
   is_blank,
-  is_digit,
   past,
   with_digit,
   number,
@@ -18,179 +17,155 @@ ghost use Rattle.numbers.specs.Reading.{
   ReadInto,
 };
 
+// A text, and a place in it or past its end.
 #[derive(Clone, Copy)]
-pub struct Number {
-    pub value: u64,
-    // the place past it
-    pub next: usize,
+pub struct Cursor<'a> {
+    pub text: &'a [u8],
+    pub at: usize,
 }
 
-#[derive(Clone, Copy)]
-struct Coordinate {
-    value: f64,
-    next: usize,
-}
+impl<'a> Cursor<'a> {
+    // The byte here. The text ends as a line does.
+    pub fn byte(&self) -> u8
+        ensures { result ≡ byte_at self.now.text.now self.now.at }
+    {
+        self.text.get(self.at).copied().unwrap_or(b'\n')
+    }
 
-// The first place after this line.
-pub fn next_line(text: &[u8], at: usize) -> usize
-    ensures { result ≡ next_line text.now at }
-{
-    let mut i = at;
-    while i < text.len() {
-        if text[i] == b'\n' {
-            return i + 1;
+    // Whether the line has no more.
+    pub fn is_end(&self) -> bool
+        ensures { result ≡ (byte_at self.now.text.now self.now.at == 10) }
+    {
+        self.byte() == b'\n'
+    }
+
+    // Goes to the first place after this line.
+    pub fn next_line(&mut self)
+        ensures { self.new ≡ record self.old { at = next_line self.old.text.now self.old.at } }
+    {
+        self.pass(|b| b != b'\n');
+        if self.at < self.text.len() {
+            self.at += 1;
         }
-        i += 1;
     }
-    i
-}
 
-// The text ends as a line does.
-pub fn byte(text: &[u8], at: usize) -> u8
-    ensures { result ≡ byte_at text.now at }
-{
-    if at < text.len() { text[at] } else { b'\n' }
-}
-
-// Whether the line has no more.
-pub fn is_end(text: &[u8], at: usize) -> bool
-    ensures { result ≡ (byte_at text.now at == 10) }
-{
-    byte(text, at) == b'\n'
-}
-
-// Reads n of them, or as many as there is room for.
-pub fn read_indices(text: &[u8], at: usize, n: u32, into: &mut [u32]) -> usize
-    ensures { ReadInto (index text.now) (past_number text.now) at n into.old into.new result }
-{
-    let end = least(n, into.len());
-    let mut next = at;
-    let mut i = 0;
-    while i < end {
-        let read = read_number(text, next);
-        into[i] = narrow(read.value);
-        next = read.next;
-        i += 1;
-    }
-    next
-}
-
-pub fn read_coordinates(text: &[u8], at: usize, n: u32, into: &mut [f64]) -> usize
-    ensures { ReadInto (coordinate text.now) (past_coordinate text.now) at n into.old into.new result }
-{
-    let end = least(n, into.len());
-    let mut next = at;
-    let mut i = 0;
-    while i < end {
-        let read = read_coordinate(text, next);
-        into[i] = read.value;
-        next = read.next;
-        i += 1;
-    }
-    next
-}
-
-// A whole number, `-` and one, or `b` and the bits of any float.
-fn read_coordinate(text: &[u8], at: usize) -> Coordinate
-    ensures { (result.value ≡ coordinate text.now at) × (result.next ≡ past_coordinate text.now at) }
-{
-    let start = skip(text, at);
-    let first = byte(text, start);
-    if first == b'b' {
-        let bits = read_number(text, start + 1);
-        return Coordinate {
-            value: float_of(bits.value),
-            next: bits.next,
-        };
-    }
-    if first == b'-' {
-        let opposite = read_number(text, start + 1);
-        return Coordinate {
-            value: -std::num::nearest_u64_to_f64(opposite.value),
-            next: opposite.next,
-        };
-    }
-    let whole = read_number(text, start);
-    Coordinate {
-        value: std::num::nearest_u64_to_f64(whole.value),
-        next: whole.next,
-    }
-}
-
-pub fn read_number(text: &[u8], at: usize) -> Number
-    ensures { (result.value ≡ number text.now at) × (result.next ≡ past_number text.now at) }
-{
-    let mut value = 0;
-    let mut next = skip(text, at);
-    while next < text.len() {
-        let b = text[next];
-        if !is_digit(b) {
-            break;
+    // Reads n of them, or as many as there is room for.
+    pub fn read_into<T: Readable>(&mut self, n: u32, into: &mut [T])
+        ensures read { ReadInto (T.value self.old.text.now) (T.next self.old.text.now) self.old.at n
+            into.old into.new self.new.at }
+        ensures text { self.new.text ≡ self.old.text }
+    {
+        let end = least(n, into.len());
+        for place in into[..end].iter_mut() {
+            *place = T::read(self);
         }
-        value = with_digit(value, b);
-        next += 1;
     }
-    Number { value, next }
+
+    fn skip_blanks(&mut self)
+        ensures { self.new ≡ record self.old { at = past is_blank self.old.text.now self.old.at } }
+    {
+        self.pass(|b| b == b' ');
+    }
+
+    // Passes all bytes of a kind that stand here, and gives them.
+    fn pass<F: Fn(u8) -> bool>(&mut self, is_of_kind: F) -> &'a [u8]
+        ghost kind: { ℕ → Bool }
+        requires callable { F.IsAlwaysCallable is_of_kind }
+        requires tests { (b : ℕ) (r : Bool) → F.post is_of_kind b r → r ≡ kind b }
+        ensures passed { result.now ≡ take_while kind (drop self.old.at self.old.text.now) }
+        ensures past { self.new ≡ record self.old { at = past kind self.old.text.now self.old.at } }
+    {
+        let rest = self.rest();
+        let n = run_len(rest, is_of_kind);
+        self.at += n;
+        &rest[..n]
+    }
+
+    // What follows, or nothing past the text's end.
+    fn rest(&self) -> &'a [u8]
+        ensures { result.now ≡ drop self.now.at self.now.text.now }
+    {
+        self.text.get(self.at..).unwrap_or(&[])
+    }
 }
 
-fn is_digit(b: u8) -> bool
-    ensures { result ≡ is_digit b }
+// How many bytes of a kind a text starts with.
+fn run_len<F: Fn(u8) -> bool>(text: &[u8], is_of_kind: F) -> usize
+    ghost kind: { ℕ → Bool }
+    requires callable { F.IsAlwaysCallable is_of_kind }
+    requires tests { (b : ℕ) (r : Bool) → F.post is_of_kind b r → r ≡ kind b }
+    ensures value { result ≡ prefix_len kind text.now }
+    ensures bound { result ≤ length text.now }
 {
-    if b < b'0' {
-        return false;
+    text.iter().take_while(|b| is_of_kind(**b)).count()
+}
+
+// What can be read from a text: a `u64` is a whole number, a `u32` the lower half of one, an `f64` a coordinate.
+pub trait Readable: Copy {
+    // What a text says from a place on, and the place past it.
+    ghost value: { List ℕ → ℕ → Self };
+
+    ghost next: { List ℕ → ℕ → ℕ };
+
+    fn read(from: &mut Cursor<'_>) -> Self
+        ensures value { result ≡ value from.old.text.now from.old.at }
+        ensures next { from.new ≡ record from.old { at = next from.old.text.now from.old.at } };
+}
+
+impl Readable for u64 {
+    ghost value = { number };
+
+    ghost next = { past_number };
+
+    fn read(from: &mut Cursor<'_>) -> u64 {
+        from.skip_blanks();
+        let digits = from.pass(|b| b.is_ascii_digit());
+        digits.iter().fold(0, |value, b| with_digit(value, *b))
     }
-    b <= b'9'
+}
+
+impl Readable for u32 {
+    ghost value = { index };
+
+    ghost next = { past_number };
+
+    fn read(from: &mut Cursor<'_>) -> u32 {
+        (u64::read(from) % 4294967296) as u32
+    }
+}
+
+impl Readable for f64 {
+    ghost value = { coordinate };
+
+    ghost next = { past_coordinate };
+
+    // A whole number, `-` and one, or `b` and the bits of any float.
+    fn read(from: &mut Cursor<'_>) -> f64 {
+        from.skip_blanks();
+        match from.byte() {
+            b'b' => {
+                from.at += 1;
+                std::num::f64_from_bits_with_nan(u64::read(from))
+            }
+            b'-' => {
+                from.at += 1;
+                -std::num::nearest_u64_to_f64(u64::read(from))
+            }
+            _ => std::num::nearest_u64_to_f64(u64::read(from)),
+        }
+    }
 }
 
 // One more digit, or the greatest number where there is no room for it.
 fn with_digit(value: u64, b: u8) -> u64
-    requires { T (is_digit b) }
     ensures { result ≡ with_digit value b }
 {
-    let digit = (b - b'0') as u64;
-    if (18446744073709551615 - digit) / 10 < value {
-        return 18446744073709551615;
-    }
-    value * 10 + digit
-}
-
-// The first place from here on that is no blank.
-fn skip(text: &[u8], at: usize) -> usize
-    ensures { result ≡ past is_blank text.now at }
-{
-    let mut i = at;
-    while i < text.len() {
-        if text[i] != b' ' {
-            break;
-        }
-        i += 1;
-    }
-    i
-}
-
-// The lower half of a number.
-pub fn narrow(n: u64) -> u32
-    ensures { result ≡ n % 4294967296 }
-{
-    (n % 4294967296) as u32
+    let digit = b.saturating_sub(b'0');
+    value.saturating_mul(10).saturating_add(u64::from(digit))
 }
 
 pub fn least(n: u32, most: usize) -> usize
     ensures { result ≡ min n most }
 {
-    let wanted = n as usize;
-    if wanted < most { wanted } else { most }
-}
-
-// The float of 64 bits. Every NaN pattern gives a NaN.
-pub fn float_of(bits: u64) -> f64
-    ensures { result ≡ from_bits binary64 bits }
-{
-    if bits % 9223372036854775808 / 4503599627370496 != 2047 {
-        return f64::from_bits(bits);
-    }
-    if bits % 4503599627370496 == 0 {
-        return f64::from_bits(bits);
-    }
-    0.0 / 0.0
+    most.min(n as usize)
 }

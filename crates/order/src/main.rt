@@ -5,12 +5,17 @@
 ghost use Rattle.std.specs.Prelude.{◌≤◌};
 ghost use Rattle.rule.specs.Sizes.{most_points};
 ghost use Rattle.layout.specs.Layout.{Room};
-ghost use Rattle.layout.specs.Points.{HasPoints};
 
-use layout::Layout;
+use layout::{Layout, Plot};
 use rule::{Line, Scratch};
 use std::io;
-use thin::Stepped;
+
+// As many points as a line may have, and a scratch for them.
+const POINTS: usize = Line::POINTS;
+
+const FLOATS: usize = Scratch::FLOATS * POINTS;
+
+const WORDS: usize = Scratch::WORDS * POINTS;
 
 // The points are drawn from a square of so many a side.
 const SIDE: u64 = 32;
@@ -33,101 +38,61 @@ const BASE: u64 = 1664525;
 const TOLERANCE: f64 = 1e300;
 
 // How many removals, and the sum of their order.
-#[derive(Drop)]
+#[derive(Clone, Copy, Default)]
 struct Order {
     removals: u64,
     sum: u64,
 }
 
 fn main(rt: HostRuntime) -> io::Result<()> {
-    let mut x = [0.0; 4096];
-    let mut y = [0.0; 4096];
-    let mut floats = [0.0; 12288];
-    let mut words = [0u32; 49152];
+    let mut x = [0.0; POINTS];
+    let mut y = [0.0; POINTS];
+    let mut floats = [0.0; FLOATS];
+    let mut words = [0; WORDS];
     draw(&mut x, &mut y);
-    let made = remove_all(&x, &y, &mut floats, &mut words);
-    print(&rt, "removals", made.removals)?;
-    print(&rt, "order", made.sum)
+    let p = Plot {
+        x: &x,
+        y: &y,
+        m: Layout::scratch(POINTS),
+    };
+    let made = remove_all(p, &mut floats, &mut words);
+    println!(&rt; "removals {}", made.removals)?;
+    println!(&rt; "order {}", made.sum)
 }
 
 fn draw(x: &mut [f64], y: &mut [f64]) {
-    let mut drawn: u64 = 0;
-    for i in 0..x.len() {
-        if i < y.len() {
-            drawn = next(drawn);
-            x[i] = std::num::nearest_u64_to_f64(drawn / DROP % SIDE);
-            drawn = next(drawn);
-            y[i] = std::num::nearest_u64_to_f64(drawn / DROP % SIDE);
-        }
+    let mut drawn = 0;
+    for (u, v) in x.iter_mut().zip(y) {
+        *u = coordinate(&mut drawn);
+        *v = coordinate(&mut drawn);
     }
 }
 
-fn next(drawn: u64) -> u64 {
-    (drawn % RANGE * FACTOR + TERM) % RANGE
+fn coordinate(drawn: &mut u64) -> f64 {
+    *drawn = (*drawn % RANGE * FACTOR + TERM) % RANGE;
+    std::num::nearest_u64_to_f64(*drawn / DROP % SIDE)
 }
 
-// No removal where the memory is short.
-fn remove_all(x: &[f64], y: &[f64], floats: &mut [f64], words: &mut [u32]) -> Order {
-    let n = x.len();
-    if Line::POINTS < n {
-        return Order {
-            removals: 0,
-            sum: 0,
-        };
-    }
-    if y.len() < n {
-        return Order {
-            removals: 0,
-            sum: 0,
-        };
-    }
-    if floats.len() < Scratch::FLOATS * n {
-        return Order {
-            removals: 0,
-            sum: 0,
-        };
-    }
-    if words.len() < Scratch::WORDS * n {
-        return Order {
-            removals: 0,
-            sum: 0,
-        };
-    }
-    run(x, y, floats, words, Layout::scratch(n))
-}
-
-fn run(x: &[f64], y: &[f64], floats: &mut [f64], words: &mut [u32], m: Layout) -> Order
-    requires { HasPoints m x.now y.now × Room m floats.old words.old × (m.points ≤ most_points) }
+fn remove_all(p: Plot, floats: &mut [f64], words: &mut [u32]) -> Order
+    requires { Room p.m floats.old words.old × (p.m.points ≤ most_points) }
 {
-    links::link(words, m, 0, m.points);
-    let mut len = thin::seed(x, y, floats, words, m, 0, m.points);
-    let mut sum: u64 = 0;
-    let mut made: usize = 0;
-    while made < m.points {
-        match thin::step(x, y, floats, words, m, len, TOLERANCE) {
-            Stepped::Finished(_) => {
-                return Order {
-                    removals: made as u64,
-                    sum: sum,
-                };
-            }
-            Stepped::Removed(i, area, left) => {
-                sum = fold(fold(sum, i as u64), bits::of(area));
-                len = left;
-            }
-        }
-        made += 1;
+    let n = p.m.points;
+    links::link(words, p.m, 0, n);
+    let mut len = thin::seed(p, floats, words, 0, n);
+    let mut order = Order::default();
+    for _ in 0..n {
+        let Some(removal) = thin::step(p, floats, words, &mut len, TOLERANCE) else {
+            break;
+        };
+        order.removals += 1;
+        order.sum = fold(
+            fold(order.sum, u64::from(removal.index)),
+            bits::of(removal.area),
+        );
     }
-    Order {
-        removals: made as u64,
-        sum: sum,
-    }
+    order
 }
 
 fn fold(sum: u64, next: u64) -> u64 {
     (sum % PRIME * BASE + next % PRIME) % PRIME
-}
-
-fn print(rt: &impl Print, name: &str, n: u64) -> io::Result<()> {
-    println!(rt; "{name} {n}")
 }

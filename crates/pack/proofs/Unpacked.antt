@@ -6,24 +6,16 @@ use Prim.Native.Nat.{ℕ, ◌/◌, ◌%◌, ◌^◌}
 use native.Mathlib.Omega.{arith}
 use lib.Dec.{ltb, eqb}
 use lib.Ieee.{Float}
+use Rattle.std.specs.Prelude.{⊤, Result, Ok, Err}
 use Rattle.rule.specs.declared.Reason.{Reason}
 use Rattle.rule.specs.declared.Reason.TheVariants.{LengthsDiffer, TooManyPoints, OffGrid, ToleranceNotFinite, RingTable, RingNotClosed}
 use Rattle.rule.specs.declared.Reason.TheVariants.{OutputShort, MemoryShort, NoSuchSlot, SlotIsOpen, SlotNotOpen}
-use Rattle.rule.specs.declared.Thinned.{Thinned}
-use Rattle.rule.specs.declared.Thinned.TheVariants.{Kept}
-use Rattle.rule.specs.declared.Thinned.TheVariants as thinned
-use Rattle.rule.specs.declared.Outcome.{Outcome}
-use Rattle.rule.specs.declared.Outcome.TheVariants.{Done}
-use Rattle.rule.specs.declared.Outcome.TheVariants as outcome
 use Rattle.rule.specs.declared.Step.{Step}
 use Rattle.rule.specs.declared.Step.TheVariants.{Removed, Finished}
 use Rattle.rule.specs.declared.Step.TheVariants as step
-use Rattle.rule.specs.declared.Listing.{Listing}
-use Rattle.rule.specs.declared.Listing.TheVariants.{Listed}
-use Rattle.rule.specs.declared.Listing.TheVariants as listing
 use Rattle.rule.specs.Answers.{number, Answer, done, kept, removal, finished, refused, refused_for, of_thinned, of_outcome, of_step, of_listing}
 use Rattle.rule.specs.SlotCalls.{is_refused}
-use Rattle.rule.proofs.Answers.{number_not_0, thinned_same, outcome_same, step_same, listing_same}
+use Rattle.rule.proofs.Answers.{number_not_0, thinned_same, outcome_same, step_same}
 use Rattle.pack.specs.Packing.{Halves, high, area_after, Packed}
 
 -- ---- the halves
@@ -74,22 +66,21 @@ reason_tells SlotNotOpen = record { accepts = refl; finishes = refl; refuses = r
 read_tells : {r : Answer} {n : ℕ} → Packed r n → Tells r (high r) → Tells r (n / 2 ^ 32)
 read_tells p t = rw (halves_read p).0 t
 
-pub thinned_tells : (r : Thinned) {n : ℕ} → Packed (of_thinned r) n → Tells (of_thinned r) (n / 2 ^ 32)
-thinned_tells (Kept m) p = read_tells p (record { accepts = refl; finishes = refl; refuses = refl })
-thinned_tells (thinned.Refused w) p = read_tells p (reason_tells w)
+pub thinned_tells : (r : Result ℕ Reason) {n : ℕ} → Packed (of_thinned r) n → Tells (of_thinned r) (n / 2 ^ 32)
+thinned_tells (Ok m) p = read_tells p (record { accepts = refl; finishes = refl; refuses = refl })
+thinned_tells (Err w) p = read_tells p (reason_tells w)
 
-pub outcome_tells : (r : Outcome) {n : ℕ} → Packed (of_outcome r) n → Tells (of_outcome r) (n / 2 ^ 32)
-outcome_tells Done p = read_tells p (record { accepts = refl; finishes = refl; refuses = refl })
-outcome_tells (outcome.Refused w) p = read_tells p (reason_tells w)
+pub outcome_tells : (r : Result ⊤ Reason) {n : ℕ} → Packed (of_outcome r) n → Tells (of_outcome r) (n / 2 ^ 32)
+outcome_tells (Ok _) p = read_tells p (record { accepts = refl; finishes = refl; refuses = refl })
+outcome_tells (Err w) p = read_tells p (reason_tells w)
 
 pub step_tells : (r : Step) {n : ℕ} → Packed (of_step r) n → Tells (of_step r) (n / 2 ^ 32)
 step_tells (Removed i a) p = read_tells p (record { accepts = refl; finishes = refl; refuses = refl })
 step_tells Finished p = read_tells p (record { accepts = refl; finishes = refl; refuses = refl })
 step_tells (step.Refused w) p = read_tells p (reason_tells w)
 
-pub listing_tells : (r : Listing) {n : ℕ} → Packed (of_listing r) n → Tells (of_listing r) (n / 2 ^ 32)
-listing_tells (Listed m) p = read_tells p (record { accepts = refl; finishes = refl; refuses = refl })
-listing_tells (listing.Refused w) p = read_tells p (reason_tells w)
+pub listing_tells : (r : Result ℕ Reason) {n : ℕ} → Packed (of_listing r) n → Tells (of_listing r) (n / 2 ^ 32)
+listing_tells r p = thinned_tells r p
 
 -- ---- nothing is lost
 
@@ -97,23 +88,20 @@ not_255 : (w : Reason) → number w ≡ 255 → ⊥
 not_255 w e = let z : false ≡ true = rw e at (reason_tells w).finishes in let o : ◌≡◌ {A = ℕ} 0 1 = cc in omega arith
 
 module _ {n : ℕ} where
-  pub thinned_lossless : (r s : Thinned) → Packed (of_thinned r) n → Packed (of_thinned s) n → r ≡ s
-  thinned_lossless (Kept m) (Kept k) p q = ap Kept (alike p q).1
-  thinned_lossless (Kept m) (thinned.Refused w) p q = absurd (number_not_0 w (alike q p).0)
-  thinned_lossless (thinned.Refused u) (Kept k) p q = absurd (number_not_0 u (alike p q).0)
-  thinned_lossless (thinned.Refused u) (thinned.Refused w) p q = let e = alike p q in thinned_same (thinned.Refused u) (thinned.Refused w) (ap₂ refused e.0 e.1)
+  pub thinned_lossless : (r s : Result ℕ Reason) → Packed (of_thinned r) n → Packed (of_thinned s) n → r ≡ s
+  thinned_lossless (Ok m) (Ok k) p q = ap Ok (alike p q).1
+  thinned_lossless (Ok m) (Err w) p q = absurd (number_not_0 w (alike q p).0)
+  thinned_lossless (Err u) (Ok k) p q = absurd (number_not_0 u (alike p q).0)
+  thinned_lossless (Err u) (Err w) p q = let e = alike p q in thinned_same (Err u) (Err w) (ap₂ refused e.0 e.1)
 
-  pub outcome_lossless : (r s : Outcome) → Packed (of_outcome r) n → Packed (of_outcome s) n → r ≡ s
-  outcome_lossless Done Done p q = refl
-  outcome_lossless Done (outcome.Refused w) p q = absurd (number_not_0 w (alike q p).0)
-  outcome_lossless (outcome.Refused u) Done p q = absurd (number_not_0 u (alike p q).0)
-  outcome_lossless (outcome.Refused u) (outcome.Refused w) p q = let e = alike p q in outcome_same (outcome.Refused u) (outcome.Refused w) (ap₂ refused e.0 e.1)
+  pub outcome_lossless : (r s : Result ⊤ Reason) → Packed (of_outcome r) n → Packed (of_outcome s) n → r ≡ s
+  outcome_lossless (Ok _) (Ok _) p q = refl
+  outcome_lossless (Ok _) (Err w) p q = absurd (number_not_0 w (alike q p).0)
+  outcome_lossless (Err u) (Ok _) p q = absurd (number_not_0 u (alike p q).0)
+  outcome_lossless (Err u) (Err w) p q = let e = alike p q in outcome_same (Err u) (Err w) (ap₂ refused e.0 e.1)
 
-  pub listing_lossless : (r s : Listing) → Packed (of_listing r) n → Packed (of_listing s) n → r ≡ s
-  listing_lossless (Listed m) (Listed k) p q = ap Listed (alike p q).1
-  listing_lossless (Listed m) (listing.Refused w) p q = absurd (number_not_0 w (alike q p).0)
-  listing_lossless (listing.Refused u) (Listed k) p q = absurd (number_not_0 u (alike p q).0)
-  listing_lossless (listing.Refused u) (listing.Refused w) p q = let e = alike p q in listing_same (listing.Refused u) (listing.Refused w) (ap₂ refused e.0 e.1)
+  pub listing_lossless : (r s : Result ℕ Reason) → Packed (of_listing r) n → Packed (of_listing s) n → r ≡ s
+  listing_lossless r s p q = thinned_lossless r s p q
 
   -- with the area, whatever stood in its place
   pub step_lossless : (r s : Step) (old : Float) → Packed (of_step r) n → Packed (of_step s) n → area_after (of_step r) old ≡ area_after (of_step s) old → r ≡ s

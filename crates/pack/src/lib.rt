@@ -2,36 +2,25 @@
 #![tactic(auto)]
 
 ghost use Rattle.std.specs.Prelude.{◌≡◌};
-ghost use Rattle.rule.specs.Answers.{refused_for, of_thinned, of_outcome, of_step, of_listing};
+ghost use Rattle.rule.specs.Answers.{refused_for, of_thinned, of_outcome, of_step};
 ghost use Rattle.pack.specs.Packing.{Halves, area_after, Packed};
 
-use rule::{Listing, Outcome, Reason, Step, Thinned};
+use rule::{Outcome, Reason, Step};
 
-pub fn pack_thinned(answer: Thinned) -> u64
+// Of a list that was written, or the points left: how many.
+pub fn pack_count(answer: Result<u32, Reason>) -> u64
     ensures { Packed (of_thinned answer) result }
 {
     match answer {
-        Thinned::Kept(count) => halves(0, count),
-        Thinned::Refused(reason) => pack_refused(reason),
+        Ok(count) => halves(0, count),
+        Err(reason) => pack_refused(reason),
     }
 }
 
 pub fn pack_outcome(answer: Outcome) -> u64
     ensures { Packed (of_outcome answer) result }
 {
-    match answer {
-        Outcome::Done => halves(0, 0),
-        Outcome::Refused(reason) => pack_refused(reason),
-    }
-}
-
-pub fn pack_listing(answer: Listing) -> u64
-    ensures { Packed (of_listing answer) result }
-{
-    match answer {
-        Listing::Listed(count) => halves(0, count),
-        Listing::Refused(reason) => pack_refused(reason),
-    }
+    pack_count(answer.map(|()| 0))
 }
 
 // The area goes to its place on a removal alone.
@@ -58,5 +47,5 @@ fn pack_refused(reason: Reason) -> u64
 fn halves(high: u32, low: u32) -> u64
     ensures { Halves high low result }
 {
-    (high as u64) * 4294967296 + low as u64
+    (u64::from(high) << 32) | u64::from(low)
 }

@@ -34,6 +34,24 @@ state_same {ws = ws} {m = m} ws' l e r = record {
     same : (i : ℕ) → SameLinks ws m ws' i
     same = same_from (λ j h. e j (omega arith))
 
+-- ---- where the coordinates stand
+
+abbrev pub moved : ℕ → ℕ → Layout → Layout
+moved x y m = record { heap = m.heap; capacity = m.capacity; links = m.links; points = m.points; x = x; y = y }
+
+-- the coordinates at the start of slices of their own
+abbrev pub own_points : Layout → Layout
+own_points m = moved 0 0 m
+
+-- the state does not see where they stand
+pub state_moved : {v : View} {fs : List Float} {ws : List ℕ} {m : Layout} {len : ℕ} (x y : ℕ) → State v fs ws m len → State v fs ws (moved x y m) len
+state_moved x y r = record {
+  ring = r.ring;
+  queue = record { each = r.queue.each; order = r.queue.order; all = r.queue.all };
+  room = r.room;
+  fits = r.fits;
+}
+
 -- ---- the part after a change of its state, of the length k
 
 module _ {fs : List Float} {ws : List ℕ} {ps : List Point} {t : Float} {ks : List ℕ} (h : Rep (area fs ws) ps t ks) (fs₁ : List Float) (ws₁ : List ℕ) (k : ℕ)

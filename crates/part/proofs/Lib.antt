@@ -1,4 +1,3 @@
-pub mod Places
 pub mod Holding
 pub mod Filling
 pub mod Listing

@@ -1,7 +1,6 @@
 -- What the calls on one slot's part promise, whatever it holds. Assumes nothing.
-use Rattle.std.specs.Prelude.{◌≡◌, false, List, [], ◌∷◌, ℕ, ◌+◌, ◌≤◌, ◌<◌, length, drop, get_or, Float}
+use Rattle.std.specs.Prelude.{◌≡◌, false, List, [], ◌∷◌, ℕ, ◌≤◌, length, drop, Float}
 use Rattle.std.proofs.Math.Option.{none}
-use Rattle.std.specs.Float.{nan}
 use Rattle.rule.specs.Grid.{Point}
 use Rattle.rule.specs.Plain.{next}
 use Rattle.rule.specs.Answers.{Answer, kept, refused}
@@ -10,9 +9,6 @@ use Rattle.rule.specs.Reasons.{first_of, output_short}
 use Rattle.rule.specs.Whole.{Call, over}
 use Rattle.rule.specs.Slots.{step_answer}
 use Rattle.rule.specs.SlotCalls.{is_refused, less_by}
-use Rattle.layout.specs.declared.Layout.{Layout}
-use Rattle.vscore.specs.declared.VScore.{VScore}
-use Rattle.thin.specs.State.{Removed}
 use Rattle.part.specs.Rep.{Rep}
 
 -- one removal, and a part changed by other hands is no reason to refuse
@@ -26,13 +22,3 @@ pub record ReadsPart (ws out : List ℕ) (r : Answer) (out' : List ℕ) : Type 0
   pub past : (n : ℕ) → r ≡ kept n → (n ≤ length out) × (length out' ≡ length out) × (drop n out' ≡ drop n out)
   pub does : (fs : List Float) (ps : List Point) (t : Float) (ks : List ℕ) → Rep (area fs ws) ps t ks
       → Call (first_of (output_short (length out) (length ks) ∷ [])) none (kept (length ks)) (over ks out) out r out'
-
--- the first n places of us were copied to the places from `start` on, and nothing else changed
-pub record Copied (fs : List Float) (start : ℕ) (us : List Float) (n : ℕ) (fs' : List Float) : Type 0 where
-  pub there : (i : ℕ) → i < n → get_or fs' (start + i) nan ≡ get_or us i nan
-  pub before : (j : ℕ) → j < start → get_or fs' j nan ≡ get_or fs j nan
-  pub after : (j : ℕ) → start + n ≤ j → get_or fs' j nan ≡ get_or fs j nan
-
--- the coordinates stand in the part's floats; nothing is demoted, so no tolerance counts
-abbrev pub RemovedIn : List Float → List ℕ → Layout → ℕ → VScore → List Float → List ℕ → ℕ → Type 0
-RemovedIn fs ws m len s fs' ws' r = (t : Float) → Removed fs fs fs ws m len s false t fs' ws' r

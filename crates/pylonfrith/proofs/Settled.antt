@@ -6,8 +6,9 @@ use mathlib.Core.Option.{Option}
 use Prim.Native.Nat.{ℕ, suc}
 use lib.Ieee.{Float}
 use Rattle.rule.specs.Grid.{Point}
+use Rattle.std.specs.Prelude.{Result}
+use Rattle.rule.specs.declared.Reason.{Reason}
 use Rattle.rule.specs.declared.Step.{Step}
-use Rattle.rule.specs.declared.Listing.{Listing}
 use Rattle.rule.specs.Answers.{Answer, of_outcome, of_step, of_listing}
 use Rattle.rule.specs.Area.{Area, part}
 use Rattle.rule.specs.Reasons.{open_reason, slot_reason}
@@ -54,7 +55,7 @@ module _ (Rep : Area → List Point → Float → List ℕ → Type 0) (k : ℕ)
       same e = (same_number c d (ap of_step e), c.allows.1 ∙ ap (λ (r : Answer). area_after r old) (ap of_step e) ∙ sym d.allows.1)
 
   -- the number, wherever the calls have made the part, and where 8, 9 or 11 applies; the output as in Rattle
-  pub record ReadForC (c d : Listing) (m n : ℕ) (p q : List ℕ) : Type 0 where
+  pub record ReadForC (c d : Result ℕ Reason) (m n : ℕ) (p q : List ℕ) : Type 0 where
     pub made : (ps : List Point) (t : Float) (ks : List ℕ) → Rep (part k a) ps t ks → m ≡ n
     pub refused : (i : ℕ) → slot_reason k a ≡ suc i → m ≡ n
     pub settled : ReadSettled Rep k a c d p q

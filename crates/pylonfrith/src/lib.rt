@@ -14,6 +14,7 @@ ghost use Rattle.pack.specs.Packing.{area_after, Packs};
 
 use rule::SlotNumber;
 
+// As it is: the C interface needs each function's name, its parameters one by one, and its number.
 #[unsafe(no_mangle)]
 pub extern "C" fn pf_simplify_vw_idx(
     x: &[f64],
@@ -26,7 +27,7 @@ pub extern "C" fn pf_simplify_vw_idx(
     ensures { Packs of_thinned (λ r. Thins index_rule x.now y.now tolerance
         (lent out.old floats.old words.old) r (lent out.new floats.new words.new)) result }
 {
-    pack::pack_thinned(simplify_vw::simplify_vw_idx(x, y, tolerance, out, floats, words))
+    pack::pack_count(simplify_vw::simplify_vw_idx(x, y, tolerance, out, floats, words))
 }
 
 #[unsafe(no_mangle)]
@@ -41,7 +42,7 @@ pub extern "C" fn pf_simplify_vw(
     ensures { Packs of_thinned (λ r. Thins point_rule x.now y.now tolerance
         (lent out.old floats.old words.old) r (lent out.new floats.new words.new)) result }
 {
-    pack::pack_thinned(simplify_vw::simplify_vw(x, y, tolerance, out, floats, words))
+    pack::pack_count(simplify_vw::simplify_vw(x, y, tolerance, out, floats, words))
 }
 
 #[unsafe(no_mangle)]
@@ -56,7 +57,7 @@ pub extern "C" fn pf_simplify_vw_preserve(
     ensures { Packs of_thinned (λ r. Thins line_rule x.now y.now tolerance
         (lent out.old floats.old words.old) r (lent out.new floats.new words.new)) result }
 {
-    pack::pack_thinned(simplify_vw_preserve::simplify_vw_preserve(
+    pack::pack_count(simplify_vw_preserve::simplify_vw_preserve(
         x, y, tolerance, out, floats, words,
     ))
 }
@@ -76,7 +77,7 @@ pub extern "C" fn pf_simplify_vw_preserve_polygon(
         (lent_rings out.old ring_out.old floats.old words.old) r
         (lent_rings out.new ring_out.new floats.new words.new)) result }
 {
-    pack::pack_thinned(simplify_vw_preserve::simplify_vw_preserve_polygon(
+    pack::pack_count(simplify_vw_preserve::simplify_vw_preserve_polygon(
         x, y, tolerance, rings, out, ring_out, floats, words,
     ))
 }
@@ -85,14 +86,14 @@ pub extern "C" fn pf_simplify_vw_preserve_polygon(
 pub extern "C" fn pf_remove_repeated_points(x: &[f64], y: &[f64], out: &mut [u32]) -> u64
     ensures { Packs of_thinned (λ r. Lists consecutive x.now y.now out.old r out.new) result }
 {
-    pack::pack_thinned(remove_repeated_points::remove_repeated_points(x, y, out))
+    pack::pack_count(remove_repeated_points::remove_repeated_points(x, y, out))
 }
 
 #[unsafe(no_mangle)]
 pub extern "C" fn pf_remove_repeated_points_anywhere(x: &[f64], y: &[f64], out: &mut [u32]) -> u64
     ensures { Packs of_thinned (λ r. Lists anywhere x.now y.now out.old r out.new) result }
 {
-    pack::pack_thinned(remove_repeated_points::remove_repeated_points_anywhere(x, y, out))
+    pack::pack_count(remove_repeated_points::remove_repeated_points_anywhere(x, y, out))
 }
 
 #[unsafe(no_mangle)]
@@ -129,7 +130,7 @@ pub extern "C" fn pf_step(floats: &mut [f64], words: &mut [u32], slot: u32, area
 pub extern "C" fn pf_read(floats: &[f64], words: &[u32], slot: u32, out: &mut [u32]) -> u64
     ensures { Packs of_listing (λ r. Reads Rep slot (memory.area floats.now words.now) out.old r out.new) result }
 {
-    pack::pack_listing(slots::read(floats, words, SlotNumber(slot), out))
+    pack::pack_count(slots::read(floats, words, SlotNumber(slot), out))
 }
 
 #[unsafe(no_mangle)]

@@ -5,8 +5,8 @@ use lib.Dec.{ltb}
 use lib.ListN.{length}
 use lib.Ieee.{Float}
 use borrow.Author.Tests.{ltb-false}
-use Rattle.rule.specs.declared.Outcome.{Outcome}
-use Rattle.rule.specs.declared.Outcome.TheVariants.{Done}
+use Rattle.std.specs.Prelude.{⊤, Result, Ok}
+use Rattle.rule.specs.declared.Reason.{Reason}
 use Rattle.rule.specs.Answers.{of_outcome}
 use Rattle.rule.specs.Reasons.{first_off_grid, line_rows, thin_reason}
 use Rattle.rule.specs.Whole.{Lent}
@@ -25,7 +25,7 @@ thin_ready us vs t m e =
     ready_of us vs t m more a (ltb-false (length m.out) (length us) a.1.1.1.1.0) a.1.1.1.1.1.0
 
 -- the tests found no reason
-module _ {o : Outcome} (us vs : List Float) (t : Float) (m : Lent) (told : o ≡ Done)
+module _ {o : Result ⊤ Reason} (us vs : List Float) (t : Float) (m : Lent) (told : o ≡ Ok tt)
     (tested : of_outcome o ≡ verdict (thin_reason us vs t (length m.out) (length m.floats) (length m.words)) (first_off_grid us vs)) where
   pub no_reason : thin_reason us vs t (length m.out) (length m.floats) (length m.words) ≡ 0
   no_reason = accepted (thin_reason us vs t (length m.out) (length m.floats) (length m.words)) (first_off_grid us vs) (as_told told tested)

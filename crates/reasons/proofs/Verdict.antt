@@ -6,8 +6,7 @@ use mathlib.Core.Option.{Option}
 use Prim.Native.Nat.{ℕ, zero, suc}
 use native.Mathlib.Omega.{arith}
 use lib.Dec.{T}
-use Rattle.rule.specs.declared.Outcome.{Outcome}
-use Rattle.rule.specs.declared.Outcome.TheVariants.{Done}
+use Rattle.std.specs.Prelude.{⊤, Result, Ok}
 use Rattle.rule.specs.declared.Reason.{Reason}
 use Rattle.rule.specs.Answers.{Answer, done, refused_for, of_outcome}
 use Rattle.rule.specs.Reasons.{Row, first_of}
@@ -17,7 +16,7 @@ use Rattle.rule.proofs.Settled.{call_refused}
 use Rattle.reasons.specs.Verdict.{verdict}
 
 -- the case that the code has found it to be
-pub as_told : {o o' : Outcome} {a : Answer} → o ≡ o' → of_outcome o ≡ a → of_outcome o' ≡ a
+pub as_told : {o o' : Result ⊤ Reason} {a : Answer} → o ≡ o' → of_outcome o ≡ a → of_outcome o' ≡ a
 as_told e f = ap of_outcome (sym e) ∙ f
 
 -- done: there is no reason
@@ -43,5 +42,5 @@ refused_before off (r ∷ rs) ss w e = go r.applies e (refused_before off rs ss 
     go false f h = h f
 
 -- a call that has these rows first, and passed their tests, goes on with the rows after them
-pub rows_passed : {o : Outcome} (off : Option ℕ) (rs ss : List Row) → T (lacks 0 rs) → of_outcome o ≡ verdict (first_of rs) off → o ≡ Done → first_of (rs ++ ss) ≡ first_of ss
+pub rows_passed : {o : Result ⊤ Reason} (off : Option ℕ) (rs ss : List Row) → T (lacks 0 rs) → of_outcome o ≡ verdict (first_of rs) off → o ≡ Ok tt → first_of (rs ++ ss) ≡ first_of ss
 rows_passed off rs ss t e d = none_given rs ss (none_applies rs t (accepted (first_of rs) off (as_told d e)))

@@ -6,39 +6,38 @@ ghost use Rattle.rule.specs.Answers.{of_outcome};
 ghost use Rattle.rule.specs.Reasons.{first_off_grid, first_of, line_rows, repeat_reason, thin_reason};
 ghost use Rattle.reasons.specs.Verdict.{verdict, memory_rows};
 
-use lent::Found;
 use rule::{Outcome, PointIndex, Reason};
+
+// As it is: x and y stay two parameters, and so do floats and words: they may have any lengths, so one value of two slices would state no fact.
 
 // Of a line with a tolerance: 1, 2, 4, 3.
 pub fn line_reason(x: &[f64], y: &[f64], tolerance: f64) -> Outcome
     ensures { of_outcome result ≡ verdict (first_of (line_rows x.now y.now tolerance)) (first_off_grid x.now y.now) }
 {
     if lent::lengths_differ(x, y) {
-        return Outcome::Refused(Reason::LengthsDiffer);
+        return Err(Reason::LengthsDiffer);
     }
     if lent::too_many_points(x) {
-        return Outcome::Refused(Reason::TooManyPoints);
+        return Err(Reason::TooManyPoints);
     }
     if lent::tolerance_not_finite(tolerance) {
-        return Outcome::Refused(Reason::ToleranceNotFinite);
+        return Err(Reason::ToleranceNotFinite);
     }
-    if let Found::At(i) = lent::first_off_grid(x, y) {
-        return Outcome::Refused(Reason::OffGrid(PointIndex(i as u32)));
+    if let Some(i) = lent::first_off_grid(x, y) {
+        return Err(Reason::OffGrid(PointIndex(i as u32)));
     }
-    Outcome::Done
+    Ok(())
 }
 
 // Of the calls on repeated points: 1, 2, 3, 7. They take no tolerance: 0 is one that 4 lets pass.
 pub fn repeat_reason(x: &[f64], y: &[f64], room: usize) -> Outcome
     ensures { of_outcome result ≡ verdict (repeat_reason x.now y.now room) (first_off_grid x.now y.now) }
 {
-    if let Outcome::Refused(reason) = line_reason(x, y, 0.0) {
-        return Outcome::Refused(reason);
-    }
+    line_reason(x, y, 0.0)?;
     if lent::output_short(room, x.len()) {
-        return Outcome::Refused(Reason::OutputShort);
+        return Err(Reason::OutputShort);
     }
-    Outcome::Done
+    Ok(())
 }
 
 // Of a call that thins a line, with an output of so many places and scratch: 1, 2, 4, 3, 7, 8.
@@ -53,9 +52,7 @@ pub fn thin_reason(
     ensures { of_outcome result ≡ verdict (thin_reason x.now y.now tolerance room (length floats.now) (length words.now))
         (first_off_grid x.now y.now) }
 {
-    if let Outcome::Refused(reason) = line_reason(x, y, tolerance) {
-        return Outcome::Refused(reason);
-    }
+    line_reason(x, y, tolerance)?;
     memory_reason(lent::output_short(room, x.len()), floats, words, x.len())
 }
 
@@ -64,10 +61,10 @@ pub fn memory_reason(short: bool, floats: &[f64], words: &[u32], points: usize) 
     ensures { (off : _) → of_outcome result ≡ verdict (first_of (memory_rows short (length floats.now) (length words.now) points)) off }
 {
     if short {
-        return Outcome::Refused(Reason::OutputShort);
+        return Err(Reason::OutputShort);
     }
     if lent::scratch_short(floats, words, points) {
-        return Outcome::Refused(Reason::MemoryShort);
+        return Err(Reason::MemoryShort);
     }
-    Outcome::Done
+    Ok(())
 }

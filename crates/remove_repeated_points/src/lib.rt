@@ -1,15 +1,15 @@
 // Repeated points: consecutive (geo's LineString), and anywhere (its MultiPoint).
 #![tactic(auto)]
 
-ghost use Rattle.std.specs.Prelude.{◌≡◌, ◌-◌, ◌≤◌, ◌<◌, length};
+ghost use Rattle.std.specs.Prelude.{◌≡◌, ◌≤◌, ◌<◌, length};
 ghost use Rattle.rule.specs.Grid.{points};
 ghost use Rattle.rule.specs.Repeat.{consecutive, anywhere};
 ghost use Rattle.rule.specs.Answers.{of_thinned};
 ghost use Rattle.rule.specs.Whole.{Lists};
-ghost use Rattle.lent.specs.Fine.{Fine};
 ghost use Rattle.remove_repeated_points.specs.Back.{is_new, all_new, Listed};
 
-use rule::{Line, Outcome, Thinned};
+use lent::Tested;
+use rule::{Line, Thinned};
 
 // Keeps the first of each run of equal points.
 pub fn remove_repeated_points(x: &[f64], y: &[f64], out: &mut [u32]) -> Thinned
@@ -29,46 +29,29 @@ pub fn remove_repeated_points_anywhere(x: &[f64], y: &[f64], out: &mut [u32]) ->
 fn keep_new(x: &[f64], y: &[f64], back: usize, out: &mut [u32]) -> Thinned
     ensures { Lists (all_new back) x.now y.now out.old (of_thinned result) out.new }
 {
-    match reasons::repeat_reason(x, y, out.len()) {
-        Outcome::Refused(reason) => Thinned::Refused(reason),
-        Outcome::Done => Thinned::Kept(list_new(x, y, back, out)),
-    }
+    reasons::repeat_reason(x, y, out.len())?;
+    Ok(list_new(Tested { x, y }, back, out))
 }
 
 // Writes their indices, and gives their number.
-fn list_new(x: &[f64], y: &[f64], back: usize, out: &mut [u32]) -> u32
-    requires { Fine x.now y.now × (length x.now ≤ length out.old) }
-    ensures { Listed back (points x.now y.now) (length x.now) out.old result out.new }
+fn list_new(p: Tested, back: usize, out: &mut [u32]) -> u32
+    requires { length p.x.now ≤ length out.old }
+    ensures { Listed back (points p.entry.x.now p.entry.y.now) (length p.entry.x.now) out.old result out.new }
 {
-    let mut kept: usize = 0;
-    let mut i: usize = 0;
-    while i < x.len() {
-        if is_new(x, y, back, i) {
+    let mut kept = 0;
+    for i in 0..p.x.len() {
+        // As it is: after `iter_mut` of a slice a proof knows its length and no element, so the next place is counted.
+        if is_new(p, back, i) {
             out[kept] = i as u32;
             kept += 1;
         }
-        i += 1;
     }
     kept as u32
 }
 
-fn is_new(x: &[f64], y: &[f64], back: usize, i: usize) -> bool
-    requires { Fine x.now y.now × (i < length x.now) }
-    ensures { result ≡ is_new back (points x.now y.now) i }
+fn is_new(p: Tested, back: usize, i: usize) -> bool
+    requires { i < length p.x.now }
+    ensures { result ≡ is_new back (points p.entry.x.now p.entry.y.now) i }
 {
-    let from = start(back, i);
-    let mut j = i;
-    while from < j {
-        j -= 1;
-        if lent::same_point(x, y, i, j) {
-            return false;
-        }
-    }
-    true
-}
-
-fn start(back: usize, i: usize) -> usize
-    ensures { result ≡ i - back }
-{
-    if back < i { i - back } else { 0 }
+    !(i.saturating_sub(back)..i).any(|j| p.same(i, j))
 }

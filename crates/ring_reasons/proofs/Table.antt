@@ -1,15 +1,17 @@
 -- The tests of the ring table. Assumes nothing.
 use mathlib.Core.Path.{◌≡◌, refl, sym, ap, ◌∙◌}
-use mathlib.Core.Bool.{Bool, true, false, not, ◌&&◌, ◌||◌, or-true}
+use mathlib.Core.Bool.{Bool, true, false, not, ◌&&◌, ◌||◌, and-false}
 use mathlib.Core.List.{List, [], ◌∷◌, ◌++◌}
 use Prim.Native.Nat.{ℕ, zero, suc, ◌+◌, ◌-◌, ◌≤◌, ◌<◌}
 use native.Mathlib.Numerals.{add-one}
 use native.Mathlib.Omega.{arith}
 use lib.Dec.{leb, ltb, eqb}
 use lib.ListN.{length, drop, get_or, length-drop}
-use lib.Seq.{drop-cons}
 use lib.Ieee.{Float}
 use borrow.Author.Tests.{le-leb, lt-leb, lt-ltb, le-ltb, not-true, not-false}
+use Rattle.std.specs.Prelude.{Option, Some, None, MatchBool, MatchOption, IsTrue, option_copied, slice_get}
+use Rattle.std.specs.Borrow.{Bor}
+use Rattle.std.specs.List.Sorted.{IsNonDecreasing}
 use Rattle.rule.specs.Sizes.{most_rings}
 use Rattle.rule.specs.Grid.{Point, at, points}
 use Rattle.rule.specs.Segment.{same}
@@ -21,55 +23,65 @@ use Rattle.ring_reasons.proofs.Cut.{Cut, cut_start, next_cut, next_rings}
 
 -- ---- 5
 
--- the entries from k on rise from `last` just if all do, and end as all do
-pub record Rising (table : List ℕ) (last k : ℕ) : Type 0 where
-  pub rise : rises 0 table ≡ rises last (drop k table)
-  pub end : last_or 0 table ≡ last_or last (drop k table)
+-- none falls
+none_falls : (lo : ℕ) (his : List ℕ) → (0 < length his → lo ≤ get_or his 0 0) → ((k : ℕ) → suc k < length his → get_or his k 0 ≤ get_or his (suc k) 0) → rises lo his ≡ true
+unfolding rises
+none_falls lo [] a b = refl
+none_falls lo (hi ∷ his) a b =
+    rw (le-leb lo hi (a (omega arith))) (none_falls hi his (λ h. b 0 (omega arith)) (λ k h. b (suc k) (omega arith)))
 
-pub rising_start : {table : List ℕ} → Rising table 0 0
-rising_start = record { rise = refl; end = refl }
+-- one falls
+one_falls : (lo k : ℕ) (his : List ℕ) → suc k < length his → get_or his (suc k) 0 < get_or his k 0 → rises lo his ≡ false
+unfolding rises
+one_falls lo k [] h l = absurd (omega arith)
+one_falls lo zero (hi ∷ []) h l = absurd (omega arith)
+one_falls lo zero (hi ∷ next ∷ his) h l = rw (lt-leb hi next l) (and-false (leb lo hi))
+one_falls lo (suc k) (hi ∷ his) h l = rw (one_falls hi k his (omega arith) l) (and-false (leb lo hi))
 
--- what is bad about a table that is not empty
-bad_is : (n : ℕ) (table : List ℕ) → 0 < length table → bad_table n table ≡ (ltb most_rings (length table) || not (rises 0 table) || not (eqb (last_or 0 table) n))
-unfolding bad_table
-bad_is n [] h = absurd (omega arith)
-bad_is n (hi ∷ his) h = refl
+-- too long, or one falls
+abbrev long_or_falls : List ℕ → Bool
+long_or_falls table = ltb most_rings (length table) || not (rises 0 table)
 
-pub bad_empty : (n : ℕ) (table : List ℕ) → length table ≡ 0 → true ≡ bad_table n table
-unfolding bad_table
-bad_empty n [] h = refl
-bad_empty n (hi ∷ his) h = absurd (omega arith)
+pub too_long : (table : List ℕ) {n : ℕ} {b : Bool} → n ≡ length table → most_rings < n → b ≡ ltb most_rings n → b ≡ long_or_falls table
+too_long table {n} e h t = rw (t, ← e, lt-ltb most_rings n h)
 
-pub bad_long : (n : ℕ) (table : List ℕ) → most_rings < length table → true ≡ bad_table n table
-bad_long n table h = sym (bad_is n table (omega arith) ∙ rw (lt-ltb most_rings (length table) h))
+-- by the library's test
+pub falls_is : (table : List ℕ) {n : ℕ} {b : Bool} (sorted : Bool) → n ≡ length table → n ≤ most_rings
+    → MatchBool sorted (IsNonDecreasing table) ((k : ℕ) × (k + 1 < length table) × ((d : ℕ) → get_or table (k + 1) d < get_or table k d)) → b ≡ not sorted → b ≡ long_or_falls table
+falls_is table {n} sorted e h s t = rw (t, ← e, le-ltb most_rings n h) (go sorted s)
+  where
+    go : (r : Bool) → MatchBool r (IsNonDecreasing table) ((k : ℕ) × (k + 1 < length table) × ((d : ℕ) → get_or table (k + 1) d < get_or table k d)) → not r ≡ not (rises 0 table)
+    go true h = rw (none_falls 0 table (λ l. omega arith) (λ k l. h k (suc k) 0 (omega arith) l))
+    go false h = rw (one_falls 0 h.0 table (rw add-one at h.1) (rw add-one at (h.2 0)))
 
-module _ {table : List ℕ} {last k : ℕ} (s : Rising table last k) where
-  module _ (h : k < length table) where
-    here : drop k table ≡ get_or table k 0 ∷ drop (k + 1) table
-    here = drop-cons table k 0 h ∙ ap (λ (j : ℕ). get_or table k 0 ∷ drop j table) (sym (add-one k))
+-- there is no last entry, or it is not n
+abbrev ends_elsewhere : ℕ → List ℕ → Bool
+ends_elsewhere n [] = true
+ends_elsewhere n (hi ∷ his) = not (eqb (last_or hi his) n)
 
-    rises_here : rises 0 table ≡ (leb last (get_or table k 0) && rises (get_or table k 0) (drop (k + 1) table))
-    unfolding rises
-    rises_here = s.rise ∙ ap (rises last) here
+last_got : (hi i : ℕ) (his : List ℕ) → i ≡ length his → slice_get (hi ∷ his) i ≡ Some (last_or hi his)
+last_got hi i [] e = rw e
+last_got hi i (next ∷ his) e = rw e (last_got next (length his) his refl)
 
-    pub rising_more : last ≤ get_or table k 0 → Rising table (get_or table k 0) (k + 1)
-    rising_more l = record {
-      rise = rises_here ∙ ap (λ (b : Bool). b && rises (get_or table k 0) (drop (k + 1) table)) (le-leb last (get_or table k 0) l);
-      end = s.end ∙ ap (last_or last) here;
-    }
+-- what the library's test of the last entry says
+pub ends_is : {Q : Bor ℕ → Type 0} (n : ℕ) (table : List ℕ) (o : Option (Bor ℕ)) (r : Bool) → option_copied o ≡ slice_get table (length table - 1)
+    → MatchOption o (IsTrue r) Q → ((e : Bor ℕ) → Q e → r ≡ not (eqb e.now n)) → r ≡ ends_elsewhere n table
+ends_is n [] None r e h q = h
+ends_is n [] (Some b) r e h q = cc
+ends_is n (hi ∷ his) None r e h q = let l = last_got hi (length (hi ∷ his) - 1) his (omega arith) in cc
+ends_is n (hi ∷ his) (Some b) r e h q = let l = last_got hi (length (hi ∷ his) - 1) his (omega arith) in let f : b.now ≡ last_or hi his = cc in rw (← f) (q b h)
 
-    pub bad_falls : (n : ℕ) → get_or table k 0 < last → true ≡ bad_table n table
-    bad_falls n l =
-        let e : rises 0 table ≡ false = rises_here ∙ ap (λ (b : Bool). b && rises (get_or table k 0) (drop (k + 1) table)) (lt-leb last (get_or table k 0) l) in
-        sym (bad_is n table (omega arith) ∙ rw e (ap (λ (b : Bool). b || not (eqb (last_or 0 table) n)) (or-true (ltb most_rings (length table)))))
+bad_is : (n : ℕ) (table : List ℕ) → bad_table n table ≡ (long_or_falls table || ends_elsewhere n table)
+unfolding bad_table rises
+bad_is n [] = refl
+bad_is n (hi ∷ his) = refl
 
-  pub bad_end : (n : ℕ) → length table ≤ k → (length table ≡ 0 → ⊥) → length table ≤ most_rings → not (eqb last n) ≡ bad_table n table
-  unfolding rises
-  bad_end n h ne f = go (drop k table) (omega (arith, length-drop k table)) s.rise s.end
-    where
-      go : (l : List ℕ) → length l ≤ 0 → rises 0 table ≡ rises last l → last_or 0 table ≡ last_or last l → not (eqb last n) ≡ bad_table n table
-      go [] g r e = sym (bad_is n table (omega arith) ∙ rw (le-ltb most_rings (length table) f, r, e))
-      go (x ∷ l) g r e = absurd (omega arith)
+module _ (n : ℕ) (table : List ℕ) {b : Bool} (e : b ≡ long_or_falls table) where
+  pub bad_so_far : b ≡ true → b ≡ bad_table n table
+  bad_so_far t = rw (bad_is n table, ← e, t)
+
+  pub bad_at_end : {r : Bool} → b ≡ false → r ≡ ends_elsewhere n table → r ≡ bad_table n table
+  bad_at_end f h = rw (bad_is n table, ← e, f) h
 
 -- a table that is not bad cuts the points
 pub table_cuts : (n : ℕ) (table : List ℕ) → bad_table n table ≡ false → Cuts n table

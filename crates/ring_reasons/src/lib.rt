@@ -7,10 +7,10 @@ ghost use Rattle.rule.specs.Plain.{indices};
 ghost use Rattle.rule.specs.Rings.{bad_table, rings_from, is_closed, all_closed};
 ghost use Rattle.rule.specs.Answers.{of_outcome};
 ghost use Rattle.rule.specs.Reasons.{first_off_grid, outputs_short, polygon_reason};
-ghost use Rattle.lent.specs.Fine.{Fine};
 ghost use Rattle.reasons.specs.Verdict.{verdict};
 ghost use Rattle.ring_reasons.specs.Table.{Cuts};
 
+use lent::Tested;
 use rule::{Outcome, Polygon, Reason};
 
 // 1, 2, 4, 3, 5, 6, 7, 8.
@@ -27,14 +27,12 @@ pub fn polygon_reason(
     ensures { of_outcome result ≡ verdict (polygon_reason x.now y.now tolerance rings.now room ends
         (length floats.now) (length words.now)) (first_off_grid x.now y.now) }
 {
-    if let Outcome::Refused(reason) = reasons::line_reason(x, y, tolerance) {
-        return Outcome::Refused(reason);
-    }
+    reasons::line_reason(x, y, tolerance)?;
     if table_bad(rings, x.len()) {
-        return Outcome::Refused(Reason::RingTable);
+        return Err(Reason::RingTable);
     }
-    if some_open(x, y, rings) {
-        return Outcome::Refused(Reason::RingNotClosed);
+    if some_open(Tested { x, y }, rings) {
+        return Err(Reason::RingNotClosed);
     }
     reasons::memory_reason(
         outputs_short(room, x.len(), ends, rings.len()),
@@ -49,60 +47,40 @@ fn table_bad(rings: &[u32], points: usize) -> bool
     ensures { result ≡ bad_table points rings.now }
 {
     let table = Polygon::new(rings);
-    if table.rings == 0 {
-        return true;
-    }
-    if Polygon::RINGS < table.rings {
-        return true;
-    }
-    let mut last = 0;
-    let mut k = 0;
-    while k < rings.len() {
-        let hi = rings[k] as usize;
-        if hi < last {
-            return true;
-        }
-        last = hi;
-        k += 1;
-    }
-    last != points
+    Polygon::RINGS < table.rings
+        || !rings.is_sorted()
+        || rings.last().is_none_or(|end| *end as usize != points)
 }
 
 // 6: some ring has points, and its first and last differ.
-fn some_open(x: &[f64], y: &[f64], rings: &[u32]) -> bool
-    requires { Fine x.now y.now × Cuts (length x.now) rings.now }
-    ensures { result ≡ not (all_closed (points x.now y.now) (rings_from 0 rings.now)) }
+// As it is: the table cuts the points of another parameter, here and in simplify_vw_preserve, so no type of the table alone can say so.
+fn some_open(p: Tested, rings: &[u32]) -> bool
+    requires { Cuts (length p.x.now) rings.now }
+    ensures { result ≡ not (all_closed (points p.entry.x.now p.entry.y.now) (rings_from 0 rings.now)) }
 {
     let mut lo = 0;
-    let mut k = 0;
-    while k < rings.len() {
-        let hi = rings[k] as usize;
-        if is_open(x, y, lo, hi) {
+    for &end in rings {
+        let hi = end as usize;
+        if is_open(p, lo, hi) {
             return true;
         }
         lo = hi;
-        k += 1;
     }
     false
 }
 
 // The ring from lo to hi.
-fn is_open(x: &[f64], y: &[f64], lo: usize, hi: usize) -> bool
-    requires { Fine x.now y.now × (lo ≤ hi) × (hi ≤ length x.now) }
-    ensures { result ≡ not (is_closed (points x.now y.now) (indices lo (hi - lo))) }
+// As it is: two numbers, as in links and thin_ring. Each use takes one end alone, so a range would be taken apart at once.
+fn is_open(p: Tested, lo: usize, hi: usize) -> bool
+    requires { (lo ≤ hi) × (hi ≤ length p.x.now) }
+    ensures { result ≡ not (is_closed (points p.entry.x.now p.entry.y.now) (indices lo (hi - lo))) }
 {
-    if hi <= lo {
-        return false;
-    }
-    !lent::same_point(x, y, lo, hi - 1)
+    lo < hi && !p.same(lo, hi - 1)
 }
 
 // 7: for so many points and rings.
 fn outputs_short(room: usize, needed: usize, ends: usize, rings: usize) -> bool
     ensures { result ≡ (outputs_short room needed ends rings).applies }
 {
-    if room < needed {
-        return true;
-    }
-    ends < rings
+    room < needed || ends < rings
 }

@@ -5,22 +5,14 @@ use Prim.Native.Nat.{ℕ, ◌-◌}
 use native.Mathlib.Omega.{arith}
 use lib.ListN.{get_or}
 use lib.Ieee.{Float}
+use Rattle.std.specs.Prelude.{⊤, Result, Ok, Err}
 use Rattle.rule.specs.declared.PointIndex.{PointIndex}
 use Rattle.rule.specs.declared.Reason.{Reason}
 use Rattle.rule.specs.declared.Reason.TheVariants.{LengthsDiffer, TooManyPoints, OffGrid, ToleranceNotFinite, RingTable, RingNotClosed}
 use Rattle.rule.specs.declared.Reason.TheVariants.{OutputShort, MemoryShort, NoSuchSlot, SlotIsOpen, SlotNotOpen}
-use Rattle.rule.specs.declared.Thinned.{Thinned}
-use Rattle.rule.specs.declared.Thinned.TheVariants.{Kept}
-use Rattle.rule.specs.declared.Thinned.TheVariants as thinned
-use Rattle.rule.specs.declared.Outcome.{Outcome}
-use Rattle.rule.specs.declared.Outcome.TheVariants.{Done}
-use Rattle.rule.specs.declared.Outcome.TheVariants as outcome
 use Rattle.rule.specs.declared.Step.{Step}
 use Rattle.rule.specs.declared.Step.TheVariants.{Removed, Finished}
 use Rattle.rule.specs.declared.Step.TheVariants as step
-use Rattle.rule.specs.declared.Listing.{Listing}
-use Rattle.rule.specs.declared.Listing.TheVariants.{Listed}
-use Rattle.rule.specs.declared.Listing.TheVariants as listing
 use Rattle.rule.specs.Answers.{number, place, done, kept, removal, finished, refused, refused_for, of_thinned, of_outcome, of_step, of_listing}
 
 -- the numbers of the table of reasons, and the place that comes with 3
@@ -30,7 +22,7 @@ reason_row i = refl
 
 -- what comes with each answer that is no refusal
 pub value_row : (n : ℕ) (i : PointIndex) (v : Float)
-    → of_thinned (Kept n) ∷ of_outcome Done ∷ of_step (Removed i v) ∷ of_step Finished ∷ of_listing (Listed n) ∷ [] ≡ kept n ∷ done ∷ removal i.0 v ∷ finished ∷ kept n ∷ []
+    → of_thinned (Ok n) ∷ of_outcome (Ok tt) ∷ of_step (Removed i v) ∷ of_step Finished ∷ of_listing (Ok n) ∷ [] ≡ kept n ∷ done ∷ removal i.0 v ∷ finished ∷ kept n ∷ []
 value_row n i v = refl
 
 -- the reason of a number and a place: the table, read from 1
@@ -61,17 +53,17 @@ reason_same u w e =
 pub number_not_0 : (w : Reason) → number w ≡ 0 → ⊥
 number_not_0 w e = let f : number w ≡ 1 = ap number (sym (reason_of w) ∙ ap (λ (n : ℕ). reason n (place w)) e) in omega arith
 
-pub thinned_same : (r s : Thinned) → of_thinned r ≡ of_thinned s → r ≡ s
-thinned_same (Kept m) (Kept n) e = ap Kept (cc)
-thinned_same (Kept m) (thinned.Refused w) e = cc
-thinned_same (thinned.Refused u) (Kept n) e = cc
-thinned_same (thinned.Refused u) (thinned.Refused w) e = ap thinned.Refused (reason_same u w e)
+pub thinned_same : (r s : Result ℕ Reason) → of_thinned r ≡ of_thinned s → r ≡ s
+thinned_same (Ok m) (Ok n) e = ap Ok (cc)
+thinned_same (Ok m) (Err w) e = cc
+thinned_same (Err u) (Ok n) e = cc
+thinned_same (Err u) (Err w) e = ap Err (reason_same u w e)
 
-pub outcome_same : (r s : Outcome) → of_outcome r ≡ of_outcome s → r ≡ s
-outcome_same Done Done e = refl
-outcome_same Done (outcome.Refused w) e = cc
-outcome_same (outcome.Refused u) Done e = cc
-outcome_same (outcome.Refused u) (outcome.Refused w) e = ap outcome.Refused (reason_same u w e)
+pub outcome_same : (r s : Result ⊤ Reason) → of_outcome r ≡ of_outcome s → r ≡ s
+outcome_same (Ok _) (Ok _) e = refl
+outcome_same (Ok _) (Err w) e = cc
+outcome_same (Err u) (Ok _) e = cc
+outcome_same (Err u) (Err w) e = ap Err (reason_same u w e)
 
 index_same : (i j : PointIndex) → i.0 ≡ j.0 → i ≡ j
 index_same i j e = λ x. record { 0 = e x }
@@ -87,8 +79,5 @@ step_same (step.Refused u) (Removed j b) e = cc
 step_same (step.Refused u) Finished e = cc
 step_same (step.Refused u) (step.Refused w) e = ap step.Refused (reason_same u w e)
 
-pub listing_same : (r s : Listing) → of_listing r ≡ of_listing s → r ≡ s
-listing_same (Listed m) (Listed n) e = ap Listed (cc)
-listing_same (Listed m) (listing.Refused w) e = cc
-listing_same (listing.Refused u) (Listed n) e = cc
-listing_same (listing.Refused u) (listing.Refused w) e = ap listing.Refused (reason_same u w e)
+pub listing_same : (r s : Result ℕ Reason) → of_listing r ≡ of_listing s → r ≡ s
+listing_same r s e = thinned_same r s e

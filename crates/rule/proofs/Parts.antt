@@ -2,7 +2,7 @@
 -- Each is stated over the size of a part first, so that nothing is computed at the true sizes.
 use mathlib.Core.Path.{◌≡◌, refl, sym, ap, ◌∙◌, subst}
 use mathlib.Core.Logic.{◌≢◌}
-use mathlib.Core.Bool.{Bool, true, false, not, ◌||◌, true≢false}
+use mathlib.Core.Bool.{Bool, true, false, not}
 use mathlib.Core.List.{List, [], ◌∷◌, ◌++◌, append_assoc}
 use Prim.Native.Nat.{ℕ, zero, suc, ◌+◌, ◌-◌, ◌*◌, ◌≤◌, ◌<◌}
 use native.Mathlib.Omega.{arith}
@@ -12,6 +12,7 @@ use lib.ListN.{length, take, drop, get_or, replicate, length-append, length-drop
 use lib.Seq.{take-nil, take-take, drop-drop, get_or-take, get_or-drop, take_at, drop_at, length-take-le}
 use lib.Ieee.{Float}
 use borrow.Author.Tests.{ltb-true, ltb-false, le-ltb}
+use Rattle.std.proofs.lemmas.Bool.{or_parts}
 use Rattle.rule.specs.Sizes.{slots, slot_floats, slot_words, area_floats, area_words}
 use Rattle.rule.specs.Area.{Area, area, piece, part, is_open, zero_float, cleared, cleared_piece, zeroed, closed_at, OnlyPiece, OnlyPart}
 use Rattle.rule.specs.Reasons.{area_short}
@@ -75,13 +76,9 @@ pub record Long (a : Area) : Type 0 where
   pub floats : area_floats ≤ length a.floats
   pub words : area_words ≤ length a.words
 
-neither : (x y : Bool) → (x || y) ≡ false → (x ≡ false) × (y ≡ false)
-neither false y e = (refl, e)
-neither true y e = absurd (true≢false e)
-
 pub long : (a : Area) → (area_short a).applies ≡ false → Long a
 long a e =
-    let h = neither (ltb (length a.floats) area_floats) (ltb (length a.words) area_words) e in
+    let h = or_parts (ltb (length a.floats) area_floats) (ltb (length a.words) area_words) e in
     record { floats = ltb-false (length a.floats) area_floats h.0; words = ltb-false (length a.words) area_words h.1 }
 
 pub not_short : (a : Area) → Long a → (area_short a).applies ≡ false

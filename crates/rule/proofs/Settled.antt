@@ -6,10 +6,9 @@ use mathlib.Core.Option.{Option}
 use Prim.Native.Nat.{ℕ, zero, suc}
 use native.Mathlib.Omega.{arith}
 use lib.Ieee.{Float}
-use Rattle.rule.specs.declared.Thinned.{Thinned}
-use Rattle.rule.specs.declared.Outcome.{Outcome}
+use Rattle.std.specs.Prelude.{⊤, Result}
+use Rattle.rule.specs.declared.Reason.{Reason}
 use Rattle.rule.specs.declared.Step.{Step}
-use Rattle.rule.specs.declared.Listing.{Listing}
 use Rattle.rule.specs.Grid.{Point}
 use Rattle.rule.specs.Answers.{Answer, of_thinned, of_outcome, of_step, of_listing}
 use Rattle.rule.specs.Area.{Area, part, OnlyPart}
@@ -34,34 +33,34 @@ settled_in : {A S : Type 0} {reason : ℕ} {off : Option ℕ} {answer : Answer} 
     → Call reason off answer left before (f r) p → Call reason off answer left before (f s) q → (r ≡ s) × (p ≡ q)
 settled_in f same r s a b = let w = call_settled a b in (same r s w.0, w.1)
 
-pub lists_settled : (rule : List Point → List ℕ) (us vs : List Float) (out : List ℕ) (r s : Thinned) (p q : List ℕ)
+pub lists_settled : (rule : List Point → List ℕ) (us vs : List Float) (out : List ℕ) (r s : Result ℕ Reason) (p q : List ℕ)
     → Lists rule us vs out (of_thinned r) p → Lists rule us vs out (of_thinned s) q → (r ≡ s) × (p ≡ q)
 lists_settled rule us vs out r s p q a b = settled_in of_thinned thinned_same r s a b
 
-pub thins_settled : (rule : List Point → Float → List ℕ) (us vs : List Float) (t : Float) (m : Lent) (r s : Thinned) (p q : Lent)
+pub thins_settled : (rule : List Point → Float → List ℕ) (us vs : List Float) (t : Float) (m : Lent) (r s : Result ℕ Reason) (p q : Lent)
     → Thins rule us vs t m (of_thinned r) p → Thins rule us vs t m (of_thinned s) q → (r ≡ s) × (p ≡ q)
 thins_settled rule us vs t m r s p q a b = settled_in of_thinned thinned_same r s a b
 
-pub rings_settled : (us vs : List Float) (t : Float) (table : List ℕ) (m : LentRings) (r s : Thinned) (p q : LentRings)
+pub rings_settled : (us vs : List Float) (t : Float) (table : List ℕ) (m : LentRings) (r s : Result ℕ Reason) (p q : LentRings)
     → ThinsRings us vs t table m (of_thinned r) p → ThinsRings us vs t table m (of_thinned s) q → (r ≡ s) × (p ≡ q)
 rings_settled us vs t table m r s p q a b = settled_in of_thinned thinned_same r s a b
 
-pub clear_settled : (a : Area) (r s : Outcome) (p q : Area) → Clears a (of_outcome r) p → Clears a (of_outcome s) q → (r ≡ s) × (p ≡ q)
+pub clear_settled : (a : Area) (r s : Result ⊤ Reason) (p q : Area) → Clears a (of_outcome r) p → Clears a (of_outcome s) q → (r ≡ s) × (p ≡ q)
 clear_settled a r s p q c d = settled_in of_outcome outcome_same r s c d
 
-pub close_settled : (k : ℕ) (a : Area) (r s : Outcome) (p q : Area) → Closes k a (of_outcome r) p → Closes k a (of_outcome s) q → (r ≡ s) × (p ≡ q)
+pub close_settled : (k : ℕ) (a : Area) (r s : Result ⊤ Reason) (p q : Area) → Closes k a (of_outcome r) p → Closes k a (of_outcome s) q → (r ≡ s) × (p ≡ q)
 close_settled k a r s p q c d = settled_in of_outcome outcome_same r s c d
 
 -- ---- where the arrangement inside an open slot is left open
 
 -- the answer, always; the area, but for the named slot's part; and all of it where the call refuses
-pub record OpenSettled (reason k : ℕ) (r s : Outcome) (p q : Area) : Type 0 where
+pub record OpenSettled (reason k : ℕ) (r s : Result ⊤ Reason) (p q : Area) : Type 0 where
   pub answer : r ≡ s
   pub rest : OnlyPart k p q
   pub refused : (n : ℕ) → reason ≡ suc n → p ≡ q
 
 module _ (Rep : Area → List Point → Float → List ℕ → Type 0) where
-  pub open_settled : (k : ℕ) (us vs : List Float) (t : Float) (a : Area) (r s : Outcome) (p q : Area)
+  pub open_settled : (k : ℕ) (us vs : List Float) (t : Float) (a : Area) (r s : Result ⊤ Reason) (p q : Area)
       → Opens Rep k us vs t a (of_outcome r) p → Opens Rep k us vs t a (of_outcome s) q → OpenSettled (open_reason k us vs t a) k r s p q
   open_settled k us vs t a r s p q c d = record {
     answer = outcome_same r s (go (open_reason k us vs t a) refl);
@@ -91,11 +90,11 @@ module _ (Rep : Area → List Point → Float → List ℕ → Type 0) where
       go ps t ks h (suc n) e = step_same r s ((c.refuses n e).0 ∙ sym (d.refuses n e).0)
 
   -- the answer and the output, wherever the slot's part is one that the calls have made, and where 8, 9 or 11 applies
-  pub record ReadSettled (k : ℕ) (a : Area) (r s : Listing) (p q : List ℕ) : Type 0 where
+  pub record ReadSettled (k : ℕ) (a : Area) (r s : Result ℕ Reason) (p q : List ℕ) : Type 0 where
     pub whole : (ps : List Point) (t : Float) (ks : List ℕ) → Rep (part k a) ps t ks → (r ≡ s) × (p ≡ q)
     pub refused : (n : ℕ) → slot_reason k a ≡ suc n → (r ≡ s) × (p ≡ q)
 
-  pub read_settled : (k : ℕ) (a : Area) (out : List ℕ) (r s : Listing) (p q : List ℕ)
+  pub read_settled : (k : ℕ) (a : Area) (out : List ℕ) (r s : Result ℕ Reason) (p q : List ℕ)
       → Reads Rep k a out (of_listing r) p → Reads Rep k a out (of_listing s) q → ReadSettled k a r s p q
   read_settled k a out r s p q c d = record {
     whole = λ ps t ks h. settled_in of_listing listing_same r s (c.does ps t ks h) (d.does ps t ks h);

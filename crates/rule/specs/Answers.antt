@@ -1,19 +1,10 @@
 -- What the answers mean: the number that document 01 gives each case, with its values. Assumes nothing.
-use Rattle.std.specs.Prelude.{ℕ, Float}
+use Rattle.std.specs.Prelude.{ℕ, Float, ⊤, Result, Ok, Err}
 use Rattle.rule.specs.declared.Reason.{Reason}
 use Rattle.rule.specs.declared.Reason.TheVariants.{LengthsDiffer, TooManyPoints, OffGrid, ToleranceNotFinite, RingTable, RingNotClosed, OutputShort, MemoryShort, NoSuchSlot, SlotIsOpen, SlotNotOpen}
-use Rattle.rule.specs.declared.Thinned.{Thinned}
-use Rattle.rule.specs.declared.Thinned.TheVariants.{Kept}
-use Rattle.rule.specs.declared.Thinned.TheVariants as thinned
-use Rattle.rule.specs.declared.Outcome.{Outcome}
-use Rattle.rule.specs.declared.Outcome.TheVariants.{Done}
-use Rattle.rule.specs.declared.Outcome.TheVariants as outcome
 use Rattle.rule.specs.declared.Step.{Step}
 use Rattle.rule.specs.declared.Step.TheVariants.{Removed, Finished}
 use Rattle.rule.specs.declared.Step.TheVariants as step
-use Rattle.rule.specs.declared.Listing.{Listing}
-use Rattle.rule.specs.declared.Listing.TheVariants.{Listed}
-use Rattle.rule.specs.declared.Listing.TheVariants as listing
 
 -- ---- the reasons
 
@@ -60,19 +51,19 @@ pub data Answer : Type 0 where
 abbrev pub refused_for : Reason → Answer
 refused_for w = refused (number w) (place w)
 
-abbrev pub of_thinned : Thinned → Answer
-of_thinned (Kept n) = kept n
-of_thinned (thinned.Refused w) = refused_for w
+abbrev pub of_thinned : Result ℕ Reason → Answer
+of_thinned (Ok n) = kept n
+of_thinned (Err w) = refused_for w
 
-abbrev pub of_outcome : Outcome → Answer
-of_outcome Done = done
-of_outcome (outcome.Refused w) = refused_for w
+abbrev pub of_outcome : Result ⊤ Reason → Answer
+of_outcome (Ok _) = done
+of_outcome (Err w) = refused_for w
 
 abbrev pub of_step : Step → Answer
 of_step (Removed i a) = removal i.0 a
 of_step Finished = finished
 of_step (step.Refused w) = refused_for w
 
-abbrev pub of_listing : Listing → Answer
-of_listing (Listed n) = kept n
-of_listing (listing.Refused w) = refused_for w
+-- a list is a list
+abbrev pub of_listing : Result ℕ Reason → Answer
+of_listing r = of_thinned r

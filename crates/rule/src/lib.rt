@@ -1,8 +1,10 @@
 // What the calls answer, and the sizes: the words of document 01 as types.
 #![tactic(auto)]
 
-ghost use Rattle.std.specs.Prelude.{◌≡◌, ◌*◌, length};
+ghost use Rattle.std.specs.Prelude.{◌≡◌, ◌+◌, ◌*◌, length};
 ghost use Rattle.rule.specs.Sizes.{slot_floats, slot_words};
+
+use std::ops::Range;
 
 // A place in the lent points. Never a slot.
 #[derive(Clone, Copy)]
@@ -29,20 +31,13 @@ pub enum Reason {
 }
 
 // A list was written, of so many indices; or nothing was.
-#[derive(Clone, Copy)]
-pub enum Thinned {
-    Kept(u32),
-    Refused(Reason),
-}
+pub type Thinned = Result<u32, Reason>;
 
 // Clear, open, close.
-#[derive(Clone, Copy)]
-pub enum Outcome {
-    Done,
-    Refused(Reason),
-}
+pub type Outcome = Result<(), Reason>;
 
 // One removal, with the area.
+// As it is: document 01 names this form for a step's answer.
 #[derive(Clone, Copy)]
 pub enum Step {
     Removed(PointIndex, f64),
@@ -51,13 +46,10 @@ pub enum Step {
 }
 
 // The points left were written, so many indices; or nothing was.
-#[derive(Clone, Copy)]
-pub enum Listing {
-    Listed(u32),
-    Refused(Reason),
-}
+pub type Listing = Result<u32, Reason>;
 
 // A line, or all rings of a polygon: how many points.
+// As it is: document 01 has a type of its own for each kind of size, with its constants and a constructor, here and below.
 #[derive(Clone, Copy)]
 pub struct Line {
     pub points: usize,
@@ -131,6 +123,18 @@ impl Slot {
             floats: k * Slot::FLOATS,
             words: k * Slot::WORDS,
         }
+    }
+
+    // The places of the part in the two lent slices.
+    pub fn places(number: SlotNumber) -> (Range<usize>, Range<usize>)
+        ensures floats { (result.0.start ≡ number.0 * slot_floats) × (result.0.end ≡ result.0.start + slot_floats) }
+        ensures words { (result.1.start ≡ number.0 * slot_words) × (result.1.end ≡ result.1.start + slot_words) }
+    {
+        let at = Slot::new(number);
+        (
+            at.floats..at.floats + Slot::FLOATS,
+            at.words..at.words + Slot::WORDS,
+        )
     }
 }
 

@@ -9,10 +9,13 @@ ghost use Rattle.scores.specs.Children.{children, child_at, IsChild, sooner_of, 
 use layout::Layout;
 use vscore::VScore;
 
+// As it is: what is asked of the two slices is room up to one place, another at each call, which no type of theirs can say.
+
 // The places below a place.
 pub const CHILDREN: usize = 4;
 
 // A place that stands below another, and the area there.
+// As it is: a place alone, with its area read again, is slower.
 #[derive(Clone, Copy)]
 struct Child {
     place: usize,
@@ -20,6 +23,7 @@ struct Child {
 }
 
 // Of the places from c on, at most four and below n, the one that is not after the others.
+// As it is: four are compared in two rounds without a branch, which is faster than the walk that fewer take.
 pub fn first_of(floats: &[f64], words: &[u32], m: Layout, c: usize, n: usize) -> usize
     requires { (c < n) × Holds m n floats.now words.now }
     ensures { FirstOf floats.now words.now m c n result }
@@ -29,8 +33,7 @@ pub fn first_of(floats: &[f64], words: &[u32], m: Layout, c: usize, n: usize) ->
     }
     let one = first_of_two(floats, words, m, c);
     let other = first_of_two(floats, words, m, c + 2);
-    let first = sooner_of(floats, words, m, one, other);
-    first.place
+    sooner_of(floats, words, m, one, other).place
 }
 
 // The same where there are no more than that.
@@ -39,10 +42,8 @@ fn first_of_few(floats: &[f64], words: &[u32], m: Layout, c: usize, n: usize) ->
     ensures { FirstOf floats.now words.now m c n result }
 {
     let mut first = child_at(floats, c);
-    let mut d = c + 1;
-    while d < n {
+    for d in c + 1..n {
         first = sooner_of(floats, words, m, first, child_at(floats, d));
-        d += 1;
     }
     first.place
 }
@@ -57,7 +58,9 @@ fn first_of_two(floats: &[f64], words: &[u32], m: Layout, c: usize) -> Child
     sooner_of(floats, words, m, a, b)
 }
 
-// Of two, the one that is not after the other. Most often the areas differ; then the choice takes no branch.
+// Of two, the one that is not after the other.
+// As it is: the areas alone mostly tell, and then the choice takes no branch. Comparing two loaded scores, or an `if` as the value, takes one and is slower.
+#[tactic(auto, unfolding(crate::specs::Children::sooner_of, vscore::specs::Score::sooner))]
 fn sooner_of(floats: &[f64], words: &[u32], m: Layout, a: Child, b: Child) -> Child
     requires { IsChild floats.now words.now m a × IsChild floats.now words.now m b }
     ensures { result ≡ sooner_of floats.now words.now m a b }
@@ -95,6 +98,7 @@ pub fn load(floats: &[f64], words: &[u32], m: Layout, j: usize) -> VScore
     VScore::new(words[a], words[a + 1], words[a + 2], floats[j])
 }
 
+// As it is: the three words copied as one slice are slower, and push and pop store at each place that they pass.
 pub fn store(floats: &mut [f64], words: &mut [u32], m: Layout, j: usize, s: VScore)
     requires { Holds m j floats.old words.old }
     ensures { (floats.new ≡ put_floats floats.old j s) × (words.new ≡ put_words words.old m j s) }

@@ -4,70 +4,52 @@
 ghost use Rattle.std.specs.Prelude.{◌≡◌};
 ghost use Rattle.rule.specs.Grid.{half};
 ghost use Rattle.layout.specs.Layout.{Room};
-ghost use Rattle.layout.specs.Points.{HasPoints};
 ghost use Rattle.scoring.specs.Plot.{demoted_if, ScoredAs};
 ghost use Rattle.scoring.specs.Putting.{PutIs};
 
-use layout::Layout;
+use layout::{Layout, Plot};
 use vscore::VScore;
 
-// The score of three points, or one of them is no point.
-#[derive(Clone, Copy)]
-pub enum Scored {
-    Score(VScore),
-    Missing,
-}
-
 // The score of a, b and c, if they are points. Nothing else here reads coordinates.
-pub fn score_of(x: &[f64], y: &[f64], m: Layout, a: u32, b: u32, c: u32) -> Scored
-    requires { HasPoints m x.now y.now }
-    ensures { ScoredAs x.now y.now m a b c half result }
+pub fn score_of(p: Plot, a: u32, b: u32, c: u32) -> Option<VScore>
+    ensures { ScoredAs p.entry.x.now p.entry.y.now p.entry.m a b c half result }
 {
-    let n = m.points;
+    let n = p.m.points;
     let l = a as usize;
     let i = b as usize;
     let r = c as usize;
-    if n <= l {
-        return Scored::Missing;
+    if n <= l || n <= i || n <= r {
+        return None;
     }
-    if n <= i {
-        return Scored::Missing;
-    }
-    if n <= r {
-        return Scored::Missing;
-    }
-    let h = m.x;
-    let v = m.y;
-    let area = grid::area(x[h + l], y[v + l], x[h + i], y[v + i], x[h + r], y[v + r]);
-    Scored::Score(VScore::new(a, b, c, area))
+    Some(VScore::new(a, b, c, grid::area(p.at(l), p.at(i), p.at(r))))
 }
 
-// The score with minus the tolerance as its area, if it is to be demoted.
-pub fn demoted_if(scored: Scored, demote: bool, tolerance: f64) -> Scored
-    ensures { result ≡ demoted_if demote tolerance scored }
+// The score, with minus the tolerance as its area if it is to be demoted by one.
+pub fn demoted_if(scored: Option<VScore>, demotion: Option<f64>) -> Option<VScore>
+    ensures { result ≡ demoted_if demotion scored }
 {
-    if !demote {
-        return scored;
-    }
-    match scored {
-        Scored::Missing => Scored::Missing,
-        Scored::Score(s) => Scored::Score(s.demoted(tolerance)),
+    match demotion {
+        None => scored,
+        Some(tolerance) => scored.map(|s| s.demoted(tolerance)),
     }
 }
 
-// Puts a score on, if there is one and room for it, and gives the number of scores.
-pub fn put(floats: &mut [f64], words: &mut [u32], m: Layout, len: usize, scored: Scored) -> usize
+// Puts a score on, if there is one and room for it. The number of scores is kept in len.
+// As it is: the two slices and their layout are three parameters, since behind a `&mut` struct each contract would have to say that layout and lengths stay.
+pub fn put(
+    floats: &mut [f64],
+    words: &mut [u32],
+    m: Layout,
+    len: &mut usize,
+    scored: Option<VScore>,
+)
     requires { Room m floats.old words.old }
-    ensures { PutIs floats.old words.old m len floats.new words.new result scored }
+    ensures { PutIs floats.old words.old m len.old floats.new words.new len.new scored }
 {
-    if m.capacity <= len {
-        return len;
-    }
-    match scored {
-        Scored::Missing => len,
-        Scored::Score(s) => {
-            heap::push(floats, words, m, len, s);
-            len + 1
+    if let Some(s) = scored {
+        if *len < m.capacity {
+            heap::push(floats, words, m, *len, s);
+            *len += 1;
         }
     }
 }

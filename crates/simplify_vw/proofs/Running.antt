@@ -1,4 +1,4 @@
--- Every removal: after k steps the memory has what the index rule leaves after k removals, and the point rule makes all of these or none. Assumes nothing.
+-- Every removal: after k steps the memory has what the index rule leaves after k removals. Assumes nothing.
 use mathlib.Core.Path.{◌≡◌, refl, sym, ap, ◌∙◌, subst}
 use mathlib.Core.Bool.{true, false, false≢true}
 use mathlib.Core.List.{List}
@@ -8,13 +8,14 @@ use native.Mathlib.Omega.{arith}
 use native.Mathlib.Numerals.{add-one}
 use lib.ListN.{length, get_or}
 use lib.Ieee.{Float, nan}
-use borrow.Author.Tests.{not-true, not-false}
-use Rattle.rule.specs.Grid.{Point, positive}
+use Rattle.std.specs.Prelude.{Some, None}
+use Rattle.std.specs.Prelude as prelude
+use Rattle.std.specs.Option.{is_some}
+use Rattle.rule.specs.Grid.{Point}
 use Rattle.rule.specs.Plain.{Candidate, indices, all, next, area_at, index_rule}
 use Rattle.rule.specs.Slots.{nth, left_after}
 use Rattle.rule.specs.SlotCalls.{less_by}
 use Rattle.laws.proofs.Removals.{next_nth, finished_again, left_zero, left_suc, left_last}
-use Rattle.laws.proofs.Tolerance.{point_all, point_index}
 use Rattle.layout.specs.declared.Layout.{Layout}
 use Rattle.layout.specs.Layout.{Room}
 use Rattle.vscore.specs.Scale.{halves}
@@ -23,11 +24,7 @@ use Rattle.links.specs.Calls.{Joined}
 use Rattle.links.specs.Ring.{Line}
 use Rattle.thin.specs.State.{Seeded}
 use Rattle.thin.specs.Plain.{LineRep, StepDone}
-use Rattle.thin.specs.declared.Stepped.{Stepped}
-use Rattle.thin.specs.declared.Stepped.TheVariants.{Removed, Finished}
-use Rattle.simplify_vw.specs.declared.Rule.{Rule}
-use Rattle.simplify_vw.specs.declared.Rule.TheVariants.{Index, Point as Points}
-use Rattle.simplify_vw.specs.Rule.{of_rule, keeps_all}
+use Rattle.thin.specs.declared.Removal.{Removal}
 use Rattle.simplify_vw.specs.Calls.{Given, Ran}
 
 -- ---- what is left once a step finds nothing
@@ -56,25 +53,9 @@ pub record Running (us vs : List Float) (fs : List Float) (ws : List ℕ) (m : L
   pub words : (i : ℕ) → m.links + 3 * m.points ≤ i → get_or ws' i 0 ≡ get_or ws i 0
   pub rep : (ps : List Point) → Given us vs m t ps → LineRep ps (left_after ps t k) fs' ws' m len
 
-pub stepped_as : {us vs : List Float} {fs : List Float} {ws : List ℕ} {m : Layout} {len : ℕ} {t : Float} {fs' : List Float} {ws' : List ℕ} {r r' : Stepped} → r ≡ r'
-    → StepDone us vs fs ws m len t fs' ws' r → StepDone us vs fs ws m len t fs' ws' r'
-stepped_as {us} {vs} {fs} {ws} {m} {len} {t} {fs'} {ws'} e d = subst (StepDone us vs fs ws m len t fs' ws') e d
-
 module _ {us vs : List Float} {m : Layout} {t : Float} where
   every : {ps : List Point} → Given us vs m t ps → indices 0 (m.points - 0) ≡ all ps
   every {ps} g = let e : m.points - 0 ≡ length ps = omega (arith, g.size) in rw e (unfold all in refl)
-
-  -- a rule that keeps all leaves the links as they were made
-  pub run_none : {fs : List Float} {ws ws' : List ℕ} (rule : Rule) → keeps_all rule t ≡ true → Joined ws m 0 m.points ws' → Ran (of_rule rule) us vs fs ws m t fs ws'
-  run_none {ws' = ws'} rule e joined = record {
-    floats = λ i h. refl;
-    words = joined.only.after;
-    kept = λ ps g. subst (Line ws' m) (every g ∙ sym (keeps_all_lem rule ps e)) joined.ring;
-  }
-    where
-      keeps_all_lem : (rule : Rule) (ps : List Point) → keeps_all rule t ≡ true → of_rule rule ps t ≡ all ps
-      keeps_all_lem Index ps e = absurd (false≢true e)
-      keeps_all_lem Points ps e = point_all ps t (not-true (positive t) e)
 
   module _ {fs₀ : List Float} {ws₀ ws₁ : List ℕ} {fs : List Float} {ws : List ℕ} {len : ℕ}
       (joined : Joined ws₀ m 0 m.points ws₁) (seeded : Seeded us vs fs₀ ws₁ m 0 m.points fs ws len) where
@@ -89,23 +70,19 @@ module _ {us vs : List Float} {m : Layout} {t : Float} where
           (seeded.rep halves (area_at ps) ps halves_faithful g.placed (λ a b c. refl) joined.ring g.fits);
     }
 
-    -- any other keeps what the index rule does; the links and the first scores change nothing past the layout's runs
-    pub run_whole : (rule : Rule) → keeps_all rule t ≡ false → Room m fs₀ ws₁ → {fs' : List Float} {ws' : List ℕ} → Ran index_rule us vs fs ws m t fs' ws'
-        → Ran (of_rule rule) us vs fs₀ ws₀ m t fs' ws'
-    run_whole rule e room {ws' = ws'} ran = record {
+    -- the links and the first scores change nothing past the layout's runs
+    pub run_whole : Room m fs₀ ws₁ → {fs' : List Float} {ws' : List ℕ} → Ran index_rule us vs fs ws m t fs' ws' → Ran index_rule us vs fs₀ ws₀ m t fs' ws'
+    run_whole room ran = record {
       floats = λ i h. ran.floats i h ∙ seeded.framed.floats i h;
       words = λ i h. ran.words i h ∙ seeded.framed.after i (omega (arith, room.scores)) ∙ joined.only.after i h;
-      kept = λ ps g. subst (Line ws' m) (sym (keeps_some rule ps e)) (ran.kept ps g);
+      kept = ran.kept;
     }
-      where
-        keeps_some : (rule : Rule) (ps : List Point) → keeps_all rule t ≡ false → of_rule rule ps t ≡ index_rule ps t
-        keeps_some Index ps e = refl
-        keeps_some Points ps e = point_index ps t (not-false (positive t) e)
 
   module _ {fs : List Float} {ws : List ℕ} {fs' : List Float} {ws' : List ℕ} {len k : ℕ} (s : Running us vs fs ws m t fs' ws' len k) where
-    pub run_turn : {fs'' : List Float} {ws'' : List ℕ} {i n : ℕ} {a : Float} → length fs'' ≡ length fs' → length ws'' ≡ length ws'
-        → StepDone us vs fs' ws' m len t fs'' ws'' (Removed i a n) → Running us vs fs ws m t fs'' ws'' n (k + 1)
-    run_turn {fs''} {ws''} {n = n} lf lw d = record {
+    pub run_turn : (r : prelude.Option Removal) → is_some r ≡ true → {fs'' : List Float} {ws'' : List ℕ} {n : ℕ} → length fs'' ≡ length fs'
+        → length ws'' ≡ length ws' → StepDone us vs fs' ws' m len t fs'' ws'' n r → Running us vs fs ws m t fs'' ws'' n (k + 1)
+    run_turn None e lf lw d = absurd (false≢true e)
+    run_turn (Some r) e {fs''} {ws''} {n} lf lw d = record {
       areas = lf ∙ s.areas;
       level = lw ∙ s.level;
       few = d.few;
@@ -118,8 +95,10 @@ module _ {us vs : List Float} {m : Layout} {t : Float} where
     }
 
     -- nothing is left to remove,
-    pub run_finished : {fs'' : List Float} {ws'' : List ℕ} {n : ℕ} → StepDone us vs fs' ws' m len t fs'' ws'' (Finished n) → Ran index_rule us vs fs ws m t fs'' ws''
-    run_finished {ws'' = ws''} d = record {
+    pub run_finished : (r : prelude.Option Removal) → is_some r ≡ false → {fs'' : List Float} {ws'' : List ℕ} {n : ℕ}
+        → StepDone us vs fs' ws' m len t fs'' ws'' n r → Ran index_rule us vs fs ws m t fs'' ws''
+    run_finished (Some r) e d = absurd (false≢true (sym e))
+    run_finished None e {ws'' = ws''} d = record {
       floats = λ i h. d.floats i h ∙ s.floats i h;
       words = λ i h. d.after i h ∙ s.words i h;
       kept = λ ps g.

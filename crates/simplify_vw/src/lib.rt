@@ -3,23 +3,21 @@
 #![tactic(auto)]
 
 ghost use Rattle.std.specs.Prelude.{◌≡◌, ◌≤◌, length};
-ghost use Rattle.rule.specs.Sizes.{most_points};
+ghost use Rattle.rule.specs.Sizes.{most_points, scratch_floats, scratch_words};
 ghost use Rattle.rule.specs.Grid.{points};
-ghost use Rattle.rule.specs.Plain.{index_rule, point_rule};
+ghost use Rattle.rule.specs.Plain.{indices, index_rule, point_rule};
 ghost use Rattle.rule.specs.Answers.{of_thinned};
 ghost use Rattle.rule.specs.Whole.{lent, Thins};
 ghost use Rattle.layout.specs.Layout.{Room};
-ghost use Rattle.layout.specs.Points.{HasPoints};
 ghost use Rattle.lent.specs.Fine.{Ready};
 ghost use Rattle.ending.specs.Keeps.{Keeps};
-ghost use Rattle.simplify_vw.specs.Rule.{of_rule, keeps_all};
 ghost use Rattle.simplify_vw.specs.Calls.{Ran};
 
-use layout::Layout;
-use rule::{Outcome, Thinned};
-use thin::Stepped;
+use layout::{Layout, Plot};
+use rule::Thinned;
 
 // The index rule: a tolerance of 0 removes flat points, and a negative one nothing.
+// As it is: the C interface passes these six one by one, here and in `simplify_vw`.
 pub fn simplify_vw_idx(
     x: &[f64],
     y: &[f64],
@@ -31,7 +29,8 @@ pub fn simplify_vw_idx(
     ensures { Thins index_rule x.now y.now tolerance (lent out.old floats.old words.old)
         (of_thinned result) (lent out.new floats.new words.new) }
 {
-    simplify(Rule::Index, x, y, tolerance, out, floats, words)
+    reasons::thin_reason(x, y, tolerance, out.len(), floats, words)?;
+    Ok(visvalingam_indices(x, y, tolerance, out, floats, words))
 }
 
 // The point rule: a tolerance of zero or less keeps every point.
@@ -46,39 +45,16 @@ pub fn simplify_vw(
     ensures { Thins point_rule x.now y.now tolerance (lent out.old floats.old words.old)
         (of_thinned result) (lent out.new floats.new words.new) }
 {
-    simplify(Rule::Point, x, y, tolerance, out, floats, words)
-}
-
-#[derive(Clone, Copy)]
-enum Rule {
-    Index,
-    Point,
-}
-
-// Tests what is lent, and thins by the rule.
-fn simplify(
-    rule: Rule,
-    x: &[f64],
-    y: &[f64],
-    tolerance: f64,
-    out: &mut [u32],
-    floats: &mut [f64],
-    words: &mut [u32],
-) -> Thinned
-    ensures { Thins (of_rule rule) x.now y.now tolerance (lent out.old floats.old words.old)
-        (of_thinned result) (lent out.new floats.new words.new) }
-{
-    match reasons::thin_reason(x, y, tolerance, out.len(), floats, words) {
-        Outcome::Refused(reason) => Thinned::Refused(reason),
-        Outcome::Done => Thinned::Kept(visvalingam_indices(
-            rule, x, y, tolerance, out, floats, words,
-        )),
+    reasons::thin_reason(x, y, tolerance, out.len(), floats, words)?;
+    if lent::tolerance_positive(tolerance) {
+        return Ok(visvalingam_indices(x, y, tolerance, out, floats, words));
     }
+    Ok(all_indices(x.len(), out, floats, words))
 }
 
-// Lists what the rule keeps, and gives how many.
+// Lists what the index rule keeps, and gives how many.
+// As it is: a struct of the three `&mut` slices is no plainer, since each contract would have to say that its fields stay the same references.
 fn visvalingam_indices(
-    rule: Rule,
     x: &[f64],
     y: &[f64],
     tolerance: f64,
@@ -87,53 +63,35 @@ fn visvalingam_indices(
     words: &mut [u32],
 ) -> u32
     requires { Ready x.now y.now tolerance (lent out.old floats.old words.old) }
-    ensures { Keeps (length x.now) (of_rule rule (points x.now y.now) tolerance)
+    ensures { Keeps (length x.now) (index_rule (points x.now y.now) tolerance)
         (lent out.old floats.old words.old) result (lent out.new floats.new words.new) }
 {
     let m = Layout::scratch(x.len());
-    remove_all(rule, x, y, floats, words, m, tolerance);
+    remove_all(Plot { x, y, m }, floats, words, tolerance);
     ending::finish(x.len(), out, floats, words)
 }
 
-// Links the points and makes every removal.
-fn remove_all(
-    rule: Rule,
-    x: &[f64],
-    y: &[f64],
-    floats: &mut [f64],
-    words: &mut [u32],
-    m: Layout,
-    tolerance: f64,
-)
-    requires { HasPoints m x.now y.now × Room m floats.old words.old × (m.points ≤ most_points) }
-    ensures { Ran (of_rule rule) x.now y.now floats.old words.old m tolerance floats.new words.new }
+// Lists every point, and gives how many.
+fn all_indices(points: usize, out: &mut [u32], floats: &mut [f64], words: &mut [u32]) -> u32
+    requires { (points ≤ most_points) × (points ≤ length out.old) × (scratch_floats points ≤ length floats.old) × (scratch_words points ≤ length words.old) }
+    ensures { Keeps points (indices 0 points) (lent out.old floats.old words.old)
+        result (lent out.new floats.new words.new) }
 {
-    links::link(words, m, 0, m.points);
-    if keeps_all(rule, tolerance) {
-        return;
-    }
-    let mut len = thin::seed(x, y, floats, words, m, 0, m.points);
-    // There are fewer removals than points.
-    let mut made = 0;
-    while made < m.points {
-        match thin::step(x, y, floats, words, m, len, tolerance) {
-            Stepped::Finished(_) => {
-                return;
-            }
-            Stepped::Removed(_, _, left) => {
-                len = left;
-            }
-        }
-        made += 1;
-    }
+    links::link(words, Layout::scratch(points), 0, points);
+    ending::finish(points, out, floats, words)
 }
 
-// The rule removes nothing at this tolerance, whatever the points.
-fn keeps_all(rule: Rule, tolerance: f64) -> bool
-    ensures { result ≡ keeps_all rule tolerance }
+// Links the points and makes every removal.
+fn remove_all(p: Plot, floats: &mut [f64], words: &mut [u32], tolerance: f64)
+    requires { Room p.m floats.old words.old × (p.m.points ≤ most_points) }
+    ensures { Ran index_rule p.entry.x.now p.entry.y.now floats.old words.old p.entry.m tolerance floats.new words.new }
 {
-    match rule {
-        Rule::Index => false,
-        Rule::Point => !lent::tolerance_positive(tolerance),
+    links::link(words, p.m, 0, p.m.points);
+    let mut len = thin::seed(p, floats, words, 0, p.m.points);
+    // There are fewer removals than points.
+    for _ in 0..p.m.points {
+        if thin::step(p, floats, words, &mut len, tolerance).is_none() {
+            return;
+        }
     }
 }

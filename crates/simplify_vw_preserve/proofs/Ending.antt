@@ -12,8 +12,7 @@ use Rattle.laws.proofs.Over.{over_more}
 use Rattle.links.specs.Words.{mark_at}
 use Rattle.links.specs.Ring.{kept_from, unmarked, Rings}
 use Rattle.links.proofs.Rings.{unmarked_append}
-use Rattle.ring_reasons.specs.Table.{Cuts}
-use Rattle.ring_reasons.proofs.Cut.{Cut, cut_start, cut_end, next_cut}
+use Rattle.ring_reasons.proofs.Cut.{Cut, next_cut}
 use Rattle.simplify_vw_preserve.specs.Calls.{count_below}
 
 -- of rings from lo on, where so many are kept before
@@ -49,9 +48,6 @@ pub record Ending (ws : List ℕ) (m : Layout) (rings out : List ℕ) (out' : Li
   pub held : out' ≡ over (map (count_below ws m) past) out
 
 module _ {ws : List ℕ} {m : Layout} {rings out : List ℕ} where
-  pub ending_start : Cuts m.points rings → Ending ws m rings out out 0
-  ending_start c = record { lo = 0; past = []; cut = cut_start c; size = refl; held = refl }
-
   module _ {out' : List ℕ} {k : ℕ} (s : Ending ws m rings out out' k) where
     pub ending_more : k < length rings → length rings ≤ length out → {r : ℕ} → r ≡ count_below ws m (get_or rings k 0) → Ending ws m rings out (set out' k r) (k + 1)
     ending_more h room {r} e = record {
@@ -66,6 +62,3 @@ module _ {ws : List ℕ} {m : Layout} {rings out : List ℕ} where
           (subst (λ (j : ℕ). set (over (map f s.past) out) j (f (get_or rings k 0)) ≡ over (map f s.past ++ (f (get_or rings k 0) ∷ [])) out) n
           (over_more (map f s.past) out (f (get_or rings k 0)) (omega arith)));
     }
-
-    pub ending_end : length rings ≤ k → out' ≡ over (map (count_below ws m) rings) out
-    ending_end h = s.held ∙ ap (λ (l : List ℕ). over (map (count_below ws m) l) out) (cut_end s.cut h).0

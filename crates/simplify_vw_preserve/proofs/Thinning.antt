@@ -24,9 +24,8 @@ use Rattle.blocks.specs.Boxes.{boxes_end, behind_end, BehindHeap, HasBoxes, set_
 use Rattle.blocks.proofs.Made.{set_up_only, set_up_boxed}
 use Rattle.thin_ring.specs.State.{Setting, left_in, Ended, Outside}
 use Rattle.thin_ring.specs.Calls.{RingDone}
-use Rattle.thin_ring.proofs.Running.{outside_self, outside_then}
-use Rattle.ring_reasons.specs.Table.{Cuts}
-use Rattle.ring_reasons.proofs.Cut.{Cut, cut_start, cut_end, next_is, next_rings, next_cut, next_from, next_to}
+use Rattle.thin_ring.proofs.Running.{outside_then}
+use Rattle.ring_reasons.proofs.Cut.{Cut, cut_end, next_is, next_rings, next_cut, next_from, next_to}
 use Rattle.simplify_vw_preserve.specs.Calls.{LinkedAll, Wrapped}
 
 -- one ring more
@@ -47,18 +46,6 @@ pub record Linking (ws : List ℕ) (m : Layout) (ends : List ℕ) (ws' : List �
   pub after : (i : ℕ) → m.links + 3 * m.points ≤ i → get_or ws' i 0 ≡ get_or ws i 0
 
 module _ {ws : List ℕ} {m : Layout} {ends : List ℕ} where
-  pub linking_start : Cuts m.points ends → Linking ws m ends ws 0 0
-  linking_start c = record {
-    past = [];
-    done = [];
-    size = refl;
-    table = cut_start c;
-    rings = refl;
-    whole = refl;
-    before = λ i h. refl;
-    after = λ i h. refl;
-  }
-
   module _ {ws' : List ℕ} {lo k : ℕ} (s : Linking ws m ends ws' lo k) where
     pub linking_more : (h : k < length ends) {ws'' : List ℕ} → length ws'' ≡ length ws' → Joined ws' m lo (get_or ends k 0) ws''
         → Linking ws m ends ws'' (get_or ends k 0) (k + 1)
@@ -145,16 +132,6 @@ pub record Thinning (b : Blocks) (us vs fs : List Float) (ws : List ℕ) (m : La
       → Boxed b m ps fs ws → Halfway b ps t q ends fs' ws' m past lo k
 
 module _ {b : Blocks} {us vs fs : List Float} {ws : List ℕ} {m : Layout} {ends : List ℕ} {q : Minima} {t : Float} where
-  pub thinning_start : Cuts m.points ends → Thinning b us vs fs ws m ends q t fs ws 0 0
-  thinning_start c = record {
-    past = [];
-    floats = refl;
-    words = refl;
-    table = cut_start c;
-    frame = outside_self (boxes_end b) fs ws m;
-    under = λ ps p f a fits r x. record { done = []; before = refl; after = r; boxed = x; same = refl };
-  }
-
   module _ {fs' : List Float} {ws' : List ℕ} {lo k : ℕ} (s : Thinning b us vs fs ws m ends q t fs' ws' lo k) where
     module _ (h : k < length ends) {fs'' : List Float} {ws'' : List ℕ} (d : RingDone b us vs fs' ws' m lo (get_or ends k 0) q t fs'' ws'') where
       more : (ps : List Point) → PlacedIn us vs m ps → is_finite t ≡ true → positive t ≡ true → most m ≤ m.capacity → Halfway b ps t q ends fs' ws' m s.past lo k

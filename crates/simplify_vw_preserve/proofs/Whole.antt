@@ -9,12 +9,9 @@ use lib.ListN.{length}
 use lib.Ieee.{Float}
 use Rattle.rule.specs.Grid.{Point, points}
 use Rattle.rule.specs.Plain.{all}
-use Rattle.rule.specs.Preserve.{Minima, preserve}
+use Rattle.rule.specs.Preserve.{Minima, of_line, of_ring, preserve}
 use Rattle.rule.specs.Rings.{rises, rings_from, joined, line_rule, polygon_rule}
-use Rattle.rule.specs.Answers.{kept}
-use Rattle.rule.specs.Reasons.{polygon_reason}
-use Rattle.rule.specs.Whole.{over, Lent, lent, LentRings, lent_rings, ThinsRings}
-use Rattle.rule.proofs.Settled.{call_done}
+use Rattle.rule.specs.Whole.{over, Lent, lent, lent_rings}
 use Rattle.layout.specs.declared.Layout.{Layout}
 use Rattle.layout.specs.Layout.{scratch_of}
 use Rattle.lent.specs.Fine.{Ready}
@@ -24,23 +21,17 @@ use Rattle.ending.proofs.Whole.{keeps_from}
 use Rattle.links.specs.Ring.{all_unmarked, Rings}
 use Rattle.links.proofs.Rings.{rings_all}
 use Rattle.blocks.specs.Boxes.{behind_end}
-use Rattle.thin_ring.specs.Calls.{minima}
 use Rattle.ring_reasons.specs.Table.{Cuts}
 use Rattle.simplify_vw_preserve.specs.Calls.{Wrapped, count_below}
 use Rattle.simplify_vw_preserve.specs.Whole.{KeepsRings}
 use Rattle.simplify_vw_preserve.proofs.Ending.{ends_kept}
-
-pub rings_done : {us vs : List Float} {t : Float} {table : List ℕ} {r : ℕ} {m m' : LentRings}
-    → polygon_reason us vs t table (length m.line.out) (length m.ring_out) (length m.line.floats) (length m.line.words) ≡ 0
-    → KeepsRings us vs t table m r m' → ThinsRings us vs t table m (kept r) m'
-rings_done e k = call_done e (ap kept k.line.count) (λ i. record { line = k.line.left i; ring_out = k.ends i })
 
 -- a line is one ring
 pub one_ring : (n : ℕ) → Cuts n (n ∷ [])
 unfolding rises
 one_ring n = record { rise = rw (leb-zero n); last = refl }
 
-line_is : (ps : List Point) (t : Float) (n : ℕ) → length ps ≡ n → joined (preserve ps t (minima 2 4) (rings_from 0 (n ∷ []))) ≡ line_rule ps t
+line_is : (ps : List Point) (t : Float) (n : ℕ) → length ps ≡ n → joined (preserve ps t of_line (rings_from 0 (n ∷ []))) ≡ line_rule ps t
 unfolding line_rule rings_from all
 line_is ps t n e = rw (sub-zero n, ← e)
 
@@ -68,7 +59,7 @@ module _ {us vs : List Float} {t : Float} {out : List ℕ} {fs fs₁ : List Floa
       (subst (λ (ks : List ℕ). Keeps (length us) ks (lent out fs₁ ws₁) r m') (sym (rings_all ws₁ (scratch_of (length us)) ends kss rings)) k)
 
 pub keeps_line : {us vs : List Float} {t : Float} {out : List ℕ} {fs fs₁ : List Float} {ws ws₁ : List ℕ} {m : Layout} {r : ℕ} {m' : Lent}
-    → Ready us vs t (lent out fs ws) → m ≡ scratch_of (length us) → Wrapped us vs fs ws m (length us ∷ []) (minima 2 4) t fs₁ ws₁
+    → Ready us vs t (lent out fs ws) → m ≡ scratch_of (length us) → Wrapped us vs fs ws m (length us ∷ []) of_line t fs₁ ws₁
     → length fs₁ ≡ length fs → length ws₁ ≡ length ws → Keeps (length us) (all_unmarked ws₁ (scratch_of (length us))) (lent out fs₁ ws₁) r m'
     → Keeps (length us) (line_rule (points us vs) t) (lent out fs ws) r m'
 keeps_line {us} {vs} {t} {out} {fs} {ws = ws} {r = r} {m' = m'} ready e w lf lw k =
@@ -76,7 +67,7 @@ keeps_line {us} {vs} {t} {out} {fs} {ws = ws} {r = r} {m' = m'} ready e w lf lw 
     (keeps_joined ready e w lf lw k)
 
 pub keeps_rings : {us vs : List Float} {t : Float} {out : List ℕ} {fs fs₁ fs₂ : List Float} {ws ws₁ ws₂ : List ℕ} {m : Layout} {ends out' ring_out ringOut' : List ℕ} {r : ℕ}
-    → Ready us vs t (lent out fs ws) → m ≡ scratch_of (length us) → Wrapped us vs fs ws m ends (minima 4 5) t fs₁ ws₁ → length fs₁ ≡ length fs → length ws₁ ≡ length ws
+    → Ready us vs t (lent out fs ws) → m ≡ scratch_of (length us) → Wrapped us vs fs ws m ends of_ring t fs₁ ws₁ → length fs₁ ≡ length fs → length ws₁ ≡ length ws
     → ringOut' ≡ over (map (count_below ws₁ m) ends) ring_out → Keeps (length us) (all_unmarked ws₁ (scratch_of (length us))) (lent out fs₁ ws₁) r (lent out' fs₂ ws₂)
     → KeepsRings us vs t ends (lent_rings out ring_out fs ws) r (lent_rings out' ringOut' fs₂ ws₂)
 unfolding polygon_rule

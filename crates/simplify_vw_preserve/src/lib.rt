@@ -9,21 +9,23 @@ ghost use Rattle.rule.specs.Rings.{line_rule};
 ghost use Rattle.rule.specs.Answers.{of_thinned};
 ghost use Rattle.rule.specs.Whole.{over, lent, lent_rings, Thins, ThinsRings};
 ghost use Rattle.layout.specs.Layout.{Room};
-ghost use Rattle.layout.specs.Points.{HasPoints};
 ghost use Rattle.lent.specs.Fine.{Ready};
 ghost use Rattle.ending.specs.Keeps.{Keeps};
 ghost use Rattle.links.specs.Words.{HasLinks};
 ghost use Rattle.blocks.specs.Boxes.{behind_end};
-ghost use Rattle.thin_ring.specs.Calls.{minima};
+ghost use Rattle.thin_ring.specs.Calls.{of_minima};
 ghost use Rattle.ring_reasons.specs.Table.{Cuts};
 ghost use Rattle.simplify_vw_preserve.specs.Calls.{LinkedAll, Wrapped, count_below};
 ghost use Rattle.simplify_vw_preserve.specs.Whole.{ReadyRings, KeepsRings};
 
 use blocks::Blocks;
-use layout::Layout;
-use rule::{Outcome, Thinned};
+use layout::{Layout, Plot};
+use links::Linked;
+use rule::Thinned;
+use thin_ring::{Minima, Thinning};
 
 // A line: minima 2 and 4.
+// As it is: the C interface passes these one by one, here and for a polygon.
 pub fn simplify_vw_preserve(
     x: &[f64],
     y: &[f64],
@@ -35,10 +37,8 @@ pub fn simplify_vw_preserve(
     ensures { Thins line_rule x.now y.now tolerance (lent out.old floats.old words.old)
         (of_thinned result) (lent out.new floats.new words.new) }
 {
-    match reasons::thin_reason(x, y, tolerance, out.len(), floats, words) {
-        Outcome::Refused(reason) => Thinned::Refused(reason),
-        Outcome::Done => Thinned::Kept(preserve_line(x, y, tolerance, out, floats, words)),
-    }
+    reasons::thin_reason(x, y, tolerance, out.len(), floats, words)?;
+    Ok(preserve_line(x, y, tolerance, out, floats, words))
 }
 
 // A polygon, whose rings end where the table says: minima 4 and 5. The ring output gets such a table for the kept list.
@@ -56,7 +56,7 @@ pub fn simplify_vw_preserve_polygon(
         (lent_rings out.old ring_out.old floats.old words.old)
         (of_thinned result) (lent_rings out.new ring_out.new floats.new words.new) }
 {
-    match ring_reasons::polygon_reason(
+    ring_reasons::polygon_reason(
         x,
         y,
         tolerance,
@@ -65,15 +65,12 @@ pub fn simplify_vw_preserve_polygon(
         ring_out.len(),
         floats,
         words,
-    ) {
-        Outcome::Refused(reason) => Thinned::Refused(reason),
-        Outcome::Done => Thinned::Kept(preserve_rings(
-            x, y, tolerance, rings, out, ring_out, floats, words,
-        )),
-    }
+    )?;
+    Ok(preserve_rings(x, y, tolerance, rings, out, ring_out, floats, words))
 }
 
 // Lists what the rule keeps of a line, and gives how many.
+// As it is: a struct of the lent `&mut` slices is no plainer, here and below, since each contract would have to say that its fields stay the same references.
 fn preserve_line(
     x: &[f64],
     y: &[f64],
@@ -88,7 +85,11 @@ fn preserve_line(
 {
     let m = Layout::scratch(x.len());
     let rings = [x.len() as u32];
-    vwp_wrapper(x, y, &rings, floats, words, m, 2, 4, tolerance);
+    let minima = Minima {
+        first: 2,
+        second: 4,
+    };
+    vwp_wrapper(Plot { x, y, m }, &rings, floats, words, minima, tolerance);
     ending::finish(x.len(), out, floats, words)
 }
 
@@ -109,44 +110,47 @@ fn preserve_rings(
         result (lent_rings out.new ring_out.new floats.new words.new) }
 {
     let m = Layout::scratch(x.len());
-    vwp_wrapper(x, y, rings, floats, words, m, 4, 5, tolerance);
-    list_ends(words, m, rings, ring_out);
+    let minima = Minima {
+        first: 4,
+        second: 5,
+    };
+    vwp_wrapper(Plot { x, y, m }, rings, floats, words, minima, tolerance);
+    list_ends(Linked { words, m }, rings, ring_out);
     ending::finish(x.len(), out, floats, words)
 }
 
 // geo's wrapper: thins the rings in the table's order. They share one memory, so that each sees the others.
 fn vwp_wrapper(
-    x: &[f64],
-    y: &[f64],
+    plot: Plot,
     rings: &[u32],
     floats: &mut [f64],
     words: &mut [u32],
-    m: Layout,
-    first: usize,
-    second: usize,
+    minima: Minima,
     tolerance: f64,
 )
-    requires { HasPoints m x.now y.now × Room m floats.old words.old × (m.points ≤ most_points) × Cuts m.points rings.now
-        × (behind_end m ≤ length floats.old) }
-    ensures { Wrapped x.now y.now floats.old words.old m rings.now (minima first second) tolerance
+    requires { Room plot.m floats.old words.old × (plot.m.points ≤ most_points) × Cuts plot.m.points rings.now
+        × (behind_end plot.m ≤ length floats.old) }
+    ensures { Wrapped plot.entry.x.now plot.entry.y.now floats.old words.old plot.entry.m rings.now (of_minima minima) tolerance
         floats.new words.new }
 {
-    link_rings(words, m, rings);
+    link_rings(words, plot.m, rings);
     // A tolerance of zero or less keeps all.
     if !lent::tolerance_positive(tolerance) {
         return;
     }
-    let b = Blocks::behind_heap(m);
-    blocks::set_up(x, y, floats, words, m, b);
+    let blocks = Blocks::behind_heap(plot.m);
+    blocks.set_up(plot, floats, words);
+    let thinning = Thinning {
+        plot,
+        blocks,
+        minima,
+        tolerance,
+    };
     let mut lo = 0;
-    let mut k = 0;
-    while k < rings.len() {
-        let hi = rings[k] as usize;
-        thin_ring::visvalingam_preserve(
-            x, y, floats, words, m, b, lo, hi, first, second, tolerance,
-        );
+    for &end in rings {
+        let hi = end as usize;
+        thinning.visvalingam_preserve(floats, words, lo, hi);
         lo = hi;
-        k += 1;
     }
 }
 
@@ -156,24 +160,19 @@ fn link_rings(words: &mut [u32], m: Layout, rings: &[u32])
     ensures { LinkedAll words.old m rings.now words.new }
 {
     let mut lo = 0;
-    let mut k = 0;
-    while k < rings.len() {
-        let hi = rings[k] as usize;
+    for &end in rings {
+        let hi = end as usize;
         links::link(words, m, lo, hi);
         lo = hi;
-        k += 1;
     }
 }
 
 // Lists where each ring ends in the kept list.
-fn list_ends(words: &[u32], m: Layout, rings: &[u32], ends: &mut [u32])
-    requires { HasLinks m words.now × (m.points ≤ most_points) × Cuts m.points rings.now × (length rings.now ≤ length ends.old) }
-    ensures { ends.new ≡ over (map (count_below words.now m) rings.now) ends.old }
+fn list_ends(links: Linked, rings: &[u32], ends: &mut [u32])
+    requires { (links.m.points ≤ most_points) × Cuts links.m.points rings.now × (length rings.now ≤ length ends.old) }
+    ensures { ends.new ≡ over (map (count_below links.entry.words.now links.entry.m) rings.now) ends.old }
 {
-    let mut k = 0;
-    while k < rings.len() {
-        let count = links::count_below(words, m, rings[k] as usize);
-        ends[k] = count as u32;
-        k += 1;
+    for (k, &end) in rings.iter().enumerate() {
+        ends[k] = links.count_below(end as usize) as u32;
     }
 }

@@ -12,6 +12,8 @@ ghost use Rattle.slot_reasons.specs.Place.{place_reason};
 
 use rule::{Outcome, Reason, Slot, SlotNumber};
 
+// As it is: floats, words and slot stay parameters of each function, as the calls on slots have them.
+
 // Of opening: 8, 9, 10, 1, 2, 4, 3.
 pub fn open_reason(
     floats: &[f64],
@@ -24,11 +26,9 @@ pub fn open_reason(
     ensures { of_outcome result ≡ verdict (open_reason slot.0 x.now y.now tolerance (area floats.now words.now))
         (first_off_grid x.now y.now) }
 {
-    if let Outcome::Refused(reason) = place_reason(floats, words, slot) {
-        return Outcome::Refused(reason);
-    }
+    place_reason(floats, words, slot)?;
     if is_open(words, slot) {
-        return Outcome::Refused(Reason::SlotIsOpen);
+        return Err(Reason::SlotIsOpen);
     }
     reasons::line_reason(x, y, tolerance)
 }
@@ -37,13 +37,11 @@ pub fn open_reason(
 pub fn slot_reason(floats: &[f64], words: &[u32], slot: SlotNumber) -> Outcome
     ensures { of_outcome result ≡ verdict (slot_reason slot.0 (area floats.now words.now)) none }
 {
-    if let Outcome::Refused(reason) = place_reason(floats, words, slot) {
-        return Outcome::Refused(reason);
-    }
+    place_reason(floats, words, slot)?;
     if !is_open(words, slot) {
-        return Outcome::Refused(Reason::SlotNotOpen);
+        return Err(Reason::SlotNotOpen);
     }
-    Outcome::Done
+    Ok(())
 }
 
 // Of any call on a slot: 8, 9.
@@ -51,12 +49,12 @@ fn place_reason(floats: &[f64], words: &[u32], slot: SlotNumber) -> Outcome
     ensures { of_outcome result ≡ verdict (place_reason slot.0 (area floats.now words.now)) none }
 {
     if lent::area_short(floats, words) {
-        return Outcome::Refused(Reason::MemoryShort);
+        return Err(Reason::MemoryShort);
     }
     if lent::no_such_slot(slot) {
-        return Outcome::Refused(Reason::NoSuchSlot);
+        return Err(Reason::NoSuchSlot);
     }
-    Outcome::Done
+    Ok(())
 }
 
 // The first u32 of the slot's part is not 0.
@@ -64,7 +62,5 @@ fn is_open(words: &[u32], slot: SlotNumber) -> bool
     requires { (slot.0 < slots) × (area_words ≤ length words.now) }
     ensures { result ≡ is_open (part slot.0 (area [] words.now)) }
 {
-    let place = Slot::new(slot);
-    let b = place.words;
-    words[b] != 0
+    words[Slot::new(slot).words] != 0
 }

@@ -8,16 +8,18 @@ ghost use Rattle.part.specs.Rep.{Rep};
 
 use rule::{Listing, Outcome, Reason, Slot, SlotNumber, Step, WorkArea};
 
+// As it is: floats, words and slot stay parameters of each call, as document 01 and the C interface have them.
+
 // Zeroes the area.
 pub fn clear(floats: &mut [f64], words: &mut [u32]) -> Outcome
     ensures { Clears (area floats.old words.old) (of_outcome result) (area floats.new words.new) }
 {
     if lent::area_short(floats, words) {
-        return Outcome::Refused(Reason::MemoryShort);
+        return Err(Reason::MemoryShort);
     }
-    ending::zero_floats(floats, WorkArea::FLOATS);
-    ending::zero_words(words, WorkArea::WORDS);
-    Outcome::Done
+    floats[..WorkArea::FLOATS].fill(0.0);
+    words[..WorkArea::WORDS].fill(0);
+    Ok(())
 }
 
 // Copies the points and the tolerance into the slot.
@@ -32,61 +34,40 @@ pub fn open(
     ensures { Opens Rep slot.0 x.now y.now tolerance
         (area floats.old words.old) (of_outcome result) (area floats.new words.new) }
 {
-    if let Outcome::Refused(reason) = slot_reasons::open_reason(
-        floats, words, slot, x, y, tolerance,
-    ) {
-        return Outcome::Refused(reason);
-    }
-    let place = Slot::new(slot);
-    let a = place.floats;
-    let e = a + Slot::FLOATS;
-    let b = place.words;
-    let d = b + Slot::WORDS;
-    part::fill(&mut floats[a..e], &mut words[b..d], x, y, tolerance);
-    Outcome::Done
+    slot_reasons::open_reason(floats, words, slot, x, y, tolerance)?;
+    let (f, w) = Slot::places(slot);
+    part::fill(&mut floats[f], &mut words[w], x, y, tolerance);
+    Ok(())
 }
 
 // Makes one removal of the plain index rule.
 pub fn step(floats: &mut [f64], words: &mut [u32], slot: SlotNumber) -> Step
     ensures { Steps Rep slot.0 (area floats.old words.old) (of_step result) (area floats.new words.new) }
 {
-    if let Outcome::Refused(reason) = slot_reasons::slot_reason(floats, words, slot) {
+    // As it is: document 01 names Step as an answer enum, so no ? hands the reason on.
+    if let Err(reason) = slot_reasons::slot_reason(floats, words, slot) {
         return Step::Refused(reason);
     }
-    let place = Slot::new(slot);
-    let a = place.floats;
-    let e = a + Slot::FLOATS;
-    let b = place.words;
-    let d = b + Slot::WORDS;
-    part::advance(&mut floats[a..e], &mut words[b..d])
+    let (f, w) = Slot::places(slot);
+    part::advance(&mut floats[f], &mut words[w])
 }
 
 // Lists the points left.
 pub fn read(floats: &[f64], words: &[u32], slot: SlotNumber, out: &mut [u32]) -> Listing
     ensures { Reads Rep slot.0 (area floats.now words.now) out.old (of_listing result) out.new }
 {
-    if let Outcome::Refused(reason) = slot_reasons::slot_reason(floats, words, slot) {
-        return Listing::Refused(reason);
-    }
-    let place = Slot::new(slot);
-    let b = place.words;
-    let d = b + Slot::WORDS;
-    part::list(&words[b..d], out)
+    slot_reasons::slot_reason(floats, words, slot)?;
+    let (_, w) = Slot::places(slot);
+    part::list(&words[w], out)
 }
 
 // Zeroes the slot's part.
 pub fn close(floats: &mut [f64], words: &mut [u32], slot: SlotNumber) -> Outcome
     ensures { Closes slot.0 (area floats.old words.old) (of_outcome result) (area floats.new words.new) }
 {
-    if let Outcome::Refused(reason) = slot_reasons::slot_reason(floats, words, slot) {
-        return Outcome::Refused(reason);
-    }
-    let place = Slot::new(slot);
-    let a = place.floats;
-    let e = a + Slot::FLOATS;
-    let b = place.words;
-    let d = b + Slot::WORDS;
-    ending::zero_floats(&mut floats[a..e], Slot::FLOATS);
-    ending::zero_words(&mut words[b..d], Slot::WORDS);
-    Outcome::Done
+    slot_reasons::slot_reason(floats, words, slot)?;
+    let (f, w) = Slot::places(slot);
+    floats[f].fill(0.0);
+    words[w].fill(0);
+    Ok(())
 }

@@ -1,8 +1,9 @@
 -- The loop of `pick`: stale scores go, and the first live one is the rule's candidate. Assumes nothing.
-use mathlib.Core.Path.{◌≡◌, refl, sym, ap, ◌∙◌, subst}
+use mathlib.Core.Path.{◌≡◌, sym, ap, ◌∙◌, subst}
 use mathlib.Core.Bool.{Bool, true, false, cond, ◌&&◌}
 use mathlib.Core.List.{List}
 use mathlib.Core.Option.{Option, none, some}
+use Rattle.std.specs.Prelude.{Some, None}
 use Prim.Native.Nat.{ℕ, suc, ◌-◌, ◌≤◌, ◌<◌}
 use native.Mathlib.Omega.{arith}
 use lib.ListN.{length}
@@ -12,17 +13,16 @@ use Rattle.layout.specs.declared.Layout.{Layout}
 use Rattle.layout.specs.Layout.{Room}
 use Rattle.vscore.specs.declared.VScore.{VScore}
 use Rattle.vscore.specs.Scale.{Scale, Faithful}
-use Rattle.scores.specs.Memory.{Holds, score_at, Framed}
-use Rattle.scores.proofs.Memory.{room_holds, holds_at, framed_self, framed_more, framed_then}
+use Rattle.scores.specs.Memory.{score_at, Framed}
+use Rattle.scores.proofs.Memory.{framed_more, framed_then}
 use Rattle.heap.specs.Heap.{Popped}
-use Rattle.links.specs.Words.{HasLinks, SameLinks}
+use Rattle.links.specs.Words.{SameLinks}
 use Rattle.links.specs.Ring.{Triple, Live}
 use Rattle.links.proofs.Ring.{ring_up, triple_alive}
 use Rattle.links.proofs.Tests.{both}
 use Rattle.links.proofs.Memory.{same_from, ring_same, live_same}
 use Rattle.links.specs.Calls.{LiveIs}
 use Rattle.thin.specs.Queue.{View, RingOf, QueueOf, chosen, Choice, candidate_of, PickDone}
-use Rattle.thin.specs.declared.Picked.TheVariants.{Found, Nothing}
 use Rattle.thin.proofs.Queue.{Of, queue_less, queue_pop, root_triple, root_least, least_none}
 
 -- ---- what is chosen of the least candidate
@@ -48,16 +48,7 @@ pub record Picking (fs : List Float) (ws : List ℕ) (m : Layout) (len : ℕ) (f
   pub framed : Framed fs ws m len fs' ws'
   pub queue : (v : View) → Faithful v.scale → RingOf v ws m → QueueOf v fs ws m len (Triple v.kept) → QueueOf v fs' ws' m k (Triple v.kept)
 
-pub pick_start : {fs : List Float} {ws : List ℕ} {m : Layout} {len : ℕ} → Room m fs ws → len ≤ m.capacity → Picking fs ws m len fs ws len
-pick_start r l = record { room = r; fits = l; floats = refl; words = refl; few = omega arith; framed = framed_self; queue = λ v φ h q. q }
-
 module _ {fs : List Float} {ws : List ℕ} {m : Layout} {len : ℕ} {fs' : List Float} {ws' : List ℕ} {k : ℕ} (p : Picking fs ws m len fs' ws' k) where
-  pub pick_holds : (j : ℕ) → j < k → Holds m j fs' ws'
-  pick_holds j l = holds_at (room_holds p.room {k = j} (omega (arith, p.few, p.fits))) p.floats p.words (omega arith)
-
-  pub pick_links : HasLinks m ws'
-  pick_links = omega (arith, p.room.linked, p.words)
-
   -- the links stay
   same : (i : ℕ) → SameLinks ws m ws' i
   same = same_from (λ j h. p.framed.after j (omega (arith, p.room.scores, p.fits)))
@@ -65,15 +56,15 @@ module _ {fs : List Float} {ws : List ℕ} {m : Layout} {len : ℕ} {fs' : List 
   ring : (v : View) → RingOf v ws m → RingOf v ws' m
   ring v h = ring_same (λ i a b. same i) h
 
-  pub pick_empty : (t : Float) → k ≤ 0 → PickDone fs ws m len t fs' ws' (Nothing 0)
+  pub pick_empty : (t : Float) → k ≤ 0 → PickDone fs ws m len t fs' ws' k None
   pick_empty t z = record {
     framed = p.framed;
     picked = (
-      omega arith,
+      p.few,
       λ v φ h q.
           let e : k ≡ 0 = omega arith in
-          let q₀ = subst (λ (x : ℕ). QueueOf v fs' ws' m x (Triple v.kept)) e (p.queue v φ h q) in
-          (chosen_none v.scale t (least_none v.score v.kept (ring_up h) q₀), q₀),
+          let q₀ = p.queue v φ h q in
+          (chosen_none v.scale t (least_none v.score v.kept (ring_up h) (subst (λ (x : ℕ). QueueOf v fs' ws' m x (Triple v.kept)) e q₀)), q₀),
     );
   }
 
@@ -133,7 +124,7 @@ module _ {fs : List Float} {ws : List ℕ} {m : Layout} {len : ℕ} {fs' : List 
 
     -- both as they are tested
     module _ (t : Float) {above : Bool} (compares : above ≡ lt t top.area) where
-      pub pick_above : (alive && above) ≡ true → PickDone fs ws m len t fs' ws' (Nothing k)
+      pub pick_above : (alive && above) ≡ true → PickDone fs ws m len t fs' ws' k None
       pick_above z = let b = both alive above z in record {
         framed = p.framed;
         picked = (
@@ -143,7 +134,7 @@ module _ {fs : List Float} {ws : List ℕ} {m : Layout} {len : ℕ} {fs' : List 
       }
 
       pub pick_found : alive ≡ true → (alive && above) ≡ false → {s : VScore} {fs'' : List Float} {ws'' : List ℕ} → Popped fs' ws' m (k - 1) s fs'' ws''
-          → PickDone fs ws m len t fs'' ws'' (Found top (k - 1))
+          → PickDone fs ws m len t fs'' ws'' (k - 1) (Some top)
       pick_found e z {s} {fs''} {ws''} pops =
           let links : (i : ℕ) → SameLinks ws' m ws'' i = same_from (λ j h. pops.framed.after j (omega (arith, p.few, p.fits, p.room.scores))) in
           let own : s.current ≡ top.current = ap (λ (x : VScore). x.current) (pops.root ∙ sym loads) in

@@ -4,6 +4,7 @@ use mathlib.Core.Bool.{Bool, true, false, ◌&&◌, and-false}
 use mathlib.Core.List.{List, [], ◌∷◌}
 use mathlib.Core.Logic.{◌⊎◌, inl, inr, ⊎_elim}
 use mathlib.Core.Option.{none, some}
+use Rattle.std.specs.Prelude.{Option}
 use Prim.Native.Nat.{ℕ, suc, ◌+◌, ◌*◌, ◌≤◌, ◌<◌}
 use native.Mathlib.Omega.{arith}
 use lib.Dec.{eqb}
@@ -28,7 +29,6 @@ use Rattle.links.specs.Ring.{Triple, Live}
 use Rattle.links.proofs.Tests.{both}
 use Rattle.links.proofs.Neighbours.{then_first, then_further}
 use Rattle.links.proofs.Ring.{ring_up, alive_triple}
-use Rattle.scoring.specs.declared.Scored.{Scored}
 use Rattle.scoring.specs.Plot.{Points, ScoreOf, ScoredAs, scored, missing}
 use Rattle.scoring.specs.Putting.{PutIs, pushes, full, nothing}
 use Rattle.thin.specs.Queue.{View, RingOf, triple, Queue, QueueOf, candidate_of}
@@ -114,7 +114,7 @@ And All n a b c l d r = All l d r ⊎ (Points n a b c × (l ≡ a) × (d ≡ b) 
 -- The score of a, b and c, if they are points, is put on; there is room.
 module _ {σ : Scale} {P : VScore → Type 0} {fs : List Float} {ws : List ℕ} {m : Layout} {n : ℕ} {All : ℕ → ℕ → ℕ → Type 0} {fs' : List Float} {ws' : List ℕ} {k : ℕ}
     (φ : Faithful σ) (proper : (s : VScore) → P s → Proper σ s) {us vs : List Float} {a b c : ℕ} {value : ℕ → Float} where
-  pub queue_put : {r : Scored} → ScoredAs us vs m a b c value r → PutIs fs ws m n fs' ws' k r → n < m.capacity
+  pub queue_put : {r : Option VScore} → ScoredAs us vs m a b c value r → PutIs fs ws m n fs' ws' k r → n < m.capacity
       → ((s : VScore) → Points m.points a b c → ScoreOf us vs m a b c value s → P s) → Queue σ P fs ws m n All → Queue σ P fs' ws' m k (And All m.points a b c)
   queue_put (scored h s) (pushes p) room e q =
       subst (λ (x : ℕ). Queue σ P fs' ws' m x (And All m.points a b c)) (sym p.count)

@@ -1,7 +1,7 @@
 -- The law of a removal, for both rules, for whole calls and for slots: a picked point is unlinked, the scores of its two neighbours are put on, and the
 -- state is that of the kept points without it. Assumes nothing.
 use mathlib.Core.Path.{◌≡◌, sym, ap, ◌∙◌, subst}
-use mathlib.Core.Bool.{Bool}
+use Rattle.std.specs.Prelude.{Option}
 use mathlib.Core.List.{List}
 use mathlib.Core.Logic.{◌⊎◌, inl, inr}
 use Prim.Native.Nat.{ℕ, suc, ◌+◌, ◌-◌, ◌≤◌, ◌<◌}
@@ -25,7 +25,6 @@ use Rattle.links.proofs.Neighbours.{next_unique, previous_unique, in_old, not_in
 use Rattle.links.proofs.Ring.{ring_in, ring_below, ring_up, previous_is, next_is, is_previous, is_next}
 use Rattle.links.proofs.Memory.{same_from, ring_same, unlinked_only, unlinked_ring}
 use Rattle.layout.specs.Points.{PlacedIn}
-use Rattle.scoring.specs.declared.Scored.{Scored}
 use Rattle.scoring.specs.Plot.{priced, Points, ScoreOf, ScoredAs}
 use Rattle.scoring.specs.Putting.{PutIs}
 use Rattle.scoring.proofs.Putting.{put_framed, put_count}
@@ -92,8 +91,8 @@ module _ (ws : List ℕ) (m : Layout) (lo hi : ℕ) (ks : List ℕ) (u : Up 0 ks
 
 -- ---- an old entry is one of the view without s's point
 
-old_entry : {v : View} {s : VScore} {ps : List Point} {g : ℕ → ℕ → ℕ → ℕ} {demote : Bool} {t : Float} → Up 0 v.kept
-    → Triple v.kept s.left s.current s.right → Suits v s ps g demote t → (e : VScore) → Entry v e → Entry (less v s g) e
+old_entry : {v : View} {s : VScore} {ps : List Point} {g : ℕ → ℕ → ℕ → ℕ} {d : Option Float} → Up 0 v.kept
+    → Triple v.kept s.left s.current s.right → Suits v s ps g d → (e : VScore) → Entry v e → Entry (less v s g) e
 old_entry {v} {s} {ps} {g} u tr su e en = record {
   proper = en.proper;
   low = en.low;
@@ -126,10 +125,10 @@ old_entry {v} {s} {ps} {g} u tr su e en = record {
 
 -- ---- the law: by what `unlink`, `score_of` twice and `put` twice promise
 
-module _ (s : VScore) (demote : Bool) (t : Float) {us vs : List Float} {fs : List Float} {ws : List ℕ} {m : Layout} {len : ℕ}
+module _ (s : VScore) (d : Option Float) {us vs : List Float} {fs : List Float} {ws : List ℕ} {m : Layout} {len : ℕ}
     (room : Room m fs ws) (le : len ≤ m.capacity) (points : Points m.points s.left s.current s.right)
     {ws₁ : List ℕ} (unlinks : ws₁ ≡ unlinked ws m s) {a b : ℕ} (before : a ≡ previous_at ws₁ m s.left) (after : b ≡ next_at ws₁ m s.right)
-    {left right : Scored} (scores-left : ScoredAs us vs m a s.left s.right (priced demote t) left)
+    {left right : Option VScore} (scores-left : ScoredAs us vs m a s.left s.right (priced d) left)
     (scores-right : ScoredAs us vs m s.left s.right b half right)
     {fs₂ : List Float} {ws₂ : List ℕ} {n₂ : ℕ} (puts-left : PutIs fs ws₁ m len fs₂ ws₂ n₂ left)
     {fs₃ : List Float} {ws₃ : List ℕ} {n₃ : ℕ} (puts-right : PutIs fs₂ ws₂ m n₂ fs₃ ws₃ n₃ right) where
@@ -149,9 +148,9 @@ module _ (s : VScore) (demote : Bool) (t : Float) {us vs : List Float} {fs : Lis
   same : (i : ℕ) → SameLinks ws₁ m ws₃ i
   same = same_from (λ j h. framed.after j (omega (arith, room.scores)))
 
-  module _ (v : View) (ps : List Point) (g : ℕ → ℕ → ℕ → ℕ) (φ : Faithful v.scale) (placed : PlacedIn us vs m ps) (ring : RingOf v ws m)
+  module _ (v : View) (ps : List Point) (g : ℕ → ℕ → ℕ → ℕ) (t : Float) (φ : Faithful v.scale) (placed : PlacedIn us vs m ps) (ring : RingOf v ws m)
       (pick : Pick v fs ws m len t s)
-      (few : suc len + (length v.kept - 2) ≤ most m) (fits : most m ≤ m.capacity) (suits : Suits v s ps g demote t) where
+      (few : suc len + (length v.kept - 2) ≤ most m) (fits : most m ≤ m.capacity) (suits : Suits v s ps g d) where
     abbrev rest : List ℕ
     rest = without s.current v.kept
 
@@ -167,7 +166,7 @@ module _ (s : VScore) (demote : Bool) (t : Float) {us vs : List Float} {fs : Lis
     new : Then rest s.left s.right
     new = bridge s.current v.kept 0 (ring_up ring) s.left s.right pick.stands
 
-    left_entry : (z : VScore) → Points m.points a s.left s.right → ScoreOf us vs m a s.left s.right (priced demote t) z → Entry (less v s g) z
+    left_entry : (z : VScore) → Points m.points a s.left s.right → ScoreOf us vs m a s.left s.right (priced d) z → Entry (less v s g) z
     left_entry z p sc =
         let i = ring_in ring s.left pick.stands.low.from in
         let low : Then rest a s.left = subst (λ (x : ℕ). Then rest x s.left) (sym before) (is_previous ring₁ new.from (omega (arith, before, p.left))) in
@@ -196,7 +195,7 @@ module _ (s : VScore) (demote : Bool) (t : Float) {us vs : List Float} {fs : Lis
       fits = fits;
     }
 
-  pub removed_law : Removed us vs fs ws m len s demote t fs₃ ws₃ n₃
+  pub removed_law : Removed us vs fs ws m len s d fs₃ ws₃ n₃
   removed_law = record {
     floats = framed.floats;
     before = λ i h. framed.before i h ∙ only.before i (omega (arith, room.scores));

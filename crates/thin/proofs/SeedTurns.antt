@@ -1,6 +1,7 @@
 -- The loop of `seed`: the score of each candidate of a ring of which every point is kept. Assumes nothing.
 use mathlib.Core.Path.{◌≡◌, refl, ◌∙◌}
 use mathlib.Core.List.{List}
+use Rattle.std.specs.Prelude.{Option}
 use mathlib.Core.Logic.{◌⊎◌, inl, inr, ⊎_elim}
 use Prim.Native.Nat.{ℕ, ◌+◌, ◌-◌, ◌≤◌, ◌<◌}
 use native.Mathlib.Decide.{dec_lt}
@@ -15,13 +16,12 @@ use Rattle.layout.specs.Layout.{Room}
 use Rattle.vscore.specs.declared.VScore.{VScore}
 use Rattle.vscore.specs.Scale.{Scale, Faithful}
 use Rattle.scores.specs.Memory.{Framed}
-use Rattle.scores.proofs.Memory.{framed_self, framed_then}
+use Rattle.scores.proofs.Memory.{framed_then}
 use Rattle.links.specs.Words.{SameLinks}
 use Rattle.links.specs.Ring.{Then, Triple}
 use Rattle.links.proofs.Marks.{indices_in, in_indices}
 use Rattle.links.proofs.Memory.{same_from, ring_same}
 use Rattle.layout.specs.Points.{PlacedIn}
-use Rattle.scoring.specs.declared.Scored.{Scored}
 use Rattle.scoring.specs.Plot.{Points, ScoreOf, ScoredAs, scored, missing}
 use Rattle.scoring.specs.Putting.{PutIs, pushes, full, nothing}
 use Rattle.scoring.proofs.Putting.{put_framed, put_count}
@@ -79,33 +79,12 @@ pub record Seeding (us vs : List Float) (fs : List Float) (ws : List ℕ) (m : L
   pub queue : (σ : Scale) (f : ℕ → ℕ → ℕ → ℕ) (ps : List Point) → Faithful σ → PlacedIn us vs m ps → ((a b c : ℕ) → half (area_at ps a b c) ≡ σ.value (f a b c))
       → most m ≤ m.capacity → QueueOf (fresh σ f lo hi) fs' ws' m len (Early lo c)
 
-pub seed_start : {us vs : List Float} {fs : List Float} {ws : List ℕ} {m : Layout} {lo hi : ℕ} → Room m fs ws → lo ≤ hi → hi ≤ m.points
-    → Seeding us vs fs ws m lo hi fs ws 0 (lo + 1)
-seed_start rm l h = record {
-  room = rm;
-  from = l;
-  to = h;
-  floats = refl;
-  words = refl;
-  few = omega arith;
-  low = omega arith;
-  top = omega arith;
-  edge = inl refl;
-  framed = framed_self;
-  number = λ h. omega arith;
-  queue = λ σ f ps φ p e h. record {
-    each = λ k l. absurd (omega arith);
-    order = λ k p l. absurd (omega arith);
-    all = λ l d r a. absurd (omega (arith, a.0, a.1, a.3));
-  };
-}
-
 module _ {us vs : List Float} {fs : List Float} {ws : List ℕ} {m : Layout} {lo hi : ℕ} {fs' : List Float} {ws' : List ℕ} {len c : ℕ}
     (s : Seeding us vs fs ws m lo hi fs' ws' len c) where
   left : c + 1 < hi → most m ≤ m.capacity → len < m.capacity
   left h g = omega (arith, s.number g, s.to)
 
-  pub seed_turn : c + 1 < hi → {r : Scored} → ScoredAs us vs m (c - 1) c (c + 1) half r → {fs'' : List Float} {ws'' : List ℕ} {k : ℕ} → PutIs fs' ws' m len fs'' ws'' k r
+  pub seed_turn : c + 1 < hi → {r : Option VScore} → ScoredAs us vs m (c - 1) c (c + 1) half r → {fs'' : List Float} {ws'' : List ℕ} {k : ℕ} → PutIs fs' ws' m len fs'' ws'' k r
       → length fs'' ≡ length fs' → length ws'' ≡ length ws' → Seeding us vs fs ws m lo hi fs'' ws'' k (c + 1)
   seed_turn h {r} sc {fs''} {ws''} {k} p lf lw = record {
     room = s.room;
@@ -127,7 +106,7 @@ module _ {us vs : List Float} {fs : List Float} {ws : List ℕ} {m : Layout} {lo
       points : Points m.points (c - 1) c (c + 1)
       points = record { left = omega (arith, s.to); current = omega (arith, s.to); right = omega (arith, s.to) }
 
-      number : most m ≤ m.capacity → {r : Scored} → ScoredAs us vs m (c - 1) c (c + 1) half r → PutIs fs' ws' m len fs'' ws'' k r → k + lo + 1 ≡ c + 1
+      number : most m ≤ m.capacity → {r : Option VScore} → ScoredAs us vs m (c - 1) c (c + 1) half r → PutIs fs' ws' m len fs'' ws'' k r → k + lo + 1 ≡ c + 1
       number g (scored q w) (pushes u) = omega (arith, u.count, s.number g)
       number g (scored q w) (full l u) = absurd (omega (arith, left h g))
       number g (missing n) (nothing u) = absurd (n points)

@@ -3,6 +3,8 @@ use mathlib.Core.Path.{◌≡◌, refl, sym, ◌∙◌, subst}
 use mathlib.Core.Bool.{Bool, true, false, not, cond}
 use mathlib.Core.List.{List}
 use mathlib.Core.Option.{Option, none, some}
+use Rattle.std.specs.Prelude.{Some, None}
+use Rattle.std.specs.Prelude as prelude
 use Prim.Native.Nat.{ℕ, ◌≤◌}
 use native.Mathlib.Nat.{sub-zero}
 use native.Mathlib.Omega.{arith}
@@ -23,10 +25,6 @@ use Rattle.layout.specs.Points.{PlacedIn}
 use Rattle.thin.specs.Queue.{chosen, candidate_of, PickDone}
 use Rattle.thin.specs.State.{most, Suits, Removed, Seeded}
 use Rattle.thin.specs.Plain.{line, LineRep, StepDone}
-use Rattle.thin.specs.declared.Picked.{Picked}
-use Rattle.thin.specs.declared.Picked.TheVariants.{Found, Nothing}
-use Rattle.thin.specs.declared.Stepped.TheVariants as stepped
-use Rattle.scoring.proofs.Scoring.{placed_same}
 
 -- ---- what is chosen
 
@@ -56,19 +54,15 @@ chosen_next ps t ks f = chosen_passing halves t (λ d. within d t) (λ d. above_
 -- ---- one step of the plain rule
 
 -- scores that never change suit
-pub plain_suits : (ps : List Point) (n : ℕ) (ks : List ℕ) (s : VScore) (t : Float) → Suits (line ps n ks) s ps (area_at ps) false t
-plain_suits ps n ks s t = record { stay = λ l c r p q. refl; left = λ a. refl; right = λ b. refl }
-
-pub picked_as : {fs : List Float} {ws : List ℕ} {m : Layout} {len : ℕ} {t : Float} {fs' : List Float} {ws' : List ℕ} {r r' : Picked} → r ≡ r'
-    → PickDone fs ws m len t fs' ws' r → PickDone fs ws m len t fs' ws' r'
-picked_as {fs} {ws} {m} {len} {t} {fs'} {ws'} e p = subst (PickDone fs ws m len t fs' ws') e p
+pub plain_suits : (ps : List Point) (n : ℕ) (ks : List ℕ) (s : VScore) → Suits (line ps n ks) s ps (area_at ps) None
+plain_suits ps n ks s = record { stay = λ l c r p q. refl; left = λ a. refl; right = λ b. refl }
 
 module _ (us vs : List Float) {fs : List Float} {ws : List ℕ} {m : Layout} {len : ℕ} {t : Float} (room : Room m fs ws) (le : len ≤ m.capacity)
     {fs₁ : List Float} {ws₁ : List ℕ} where
-  same : {r : Picked} → PickDone fs ws m len t fs₁ ws₁ r → (i : ℕ) → SameLinks ws m ws₁ i
+  same : {k : ℕ} {r : prelude.Option VScore} → PickDone fs ws m len t fs₁ ws₁ k r → (i : ℕ) → SameLinks ws m ws₁ i
   same p = same_from (λ j h. p.framed.after j (omega (arith, room.scores)))
 
-  pub step_finished : {k : ℕ} → PickDone fs ws m len t fs₁ ws₁ (Nothing k) → StepDone us vs fs ws m len t fs₁ ws₁ (stepped.Finished k)
+  pub step_finished : {k : ℕ} → PickDone fs ws m len t fs₁ ws₁ k None → StepDone us vs fs ws m len t fs₁ ws₁ k None
   step_finished {k} p = record {
     floats = λ i h. p.framed.floats i (omega arith);
     before = p.framed.before;
@@ -87,12 +81,10 @@ module _ (us vs : List Float) {fs : List Float} {ws : List ℕ} {m : Layout} {le
         };
   }
 
-  -- the coordinates that the removal read are those of the points still
-  pub step_removed : {s : VScore} {k : ℕ} → PickDone fs ws m len t fs₁ ws₁ (Found s k)
-      → {us₁ vs₁ : List Float} → ((ps : List Point) → PlacedIn us vs m ps → PlacedIn us₁ vs₁ m ps)
-      → {fs₂ : List Float} {ws₂ : List ℕ} {n : ℕ} → Removed us₁ vs₁ fs₁ ws₁ m k s false t fs₂ ws₂ n
-      → StepDone us vs fs ws m len t fs₂ ws₂ (stepped.Removed s.current s.area n)
-  step_removed {s} {k} p stay {n = n} rm = record {
+  pub step_removed : {s : VScore} {k : ℕ} → PickDone fs ws m len t fs₁ ws₁ k (Some s)
+      → {fs₂ : List Float} {ws₂ : List ℕ} {n : ℕ} → Removed us vs fs₁ ws₁ m k s None fs₂ ws₂ n
+      → StepDone us vs fs ws m len t fs₂ ws₂ n (Some (record { index = s.current; area = s.area }))
+  step_removed {s} {k} p {n = n} rm = record {
     floats = λ i h. rm.floats i h ∙ p.framed.floats i (omega arith);
     before = λ i h. rm.before i h ∙ p.framed.before i h;
     after = λ i h. rm.links i (omega arith) ∙ only.after i h ∙ p.framed.after i (omega (arith, room.scores));
@@ -104,8 +96,8 @@ module _ (us vs : List Float) {fs : List Float} {ws : List ℕ} {m : Layout} {le
           next_is = sym (chosen_next ps t ks f) ∙ w.chose;
           index = refl;
           area = w.area;
-          rep = rm.rep (line ps m.points ks) ps (area_at ps) halves_faithful (stay ps pl) (ring_same (λ i a b. same p i) rep.ring) w
-              (omega (arith, rep.room, p.picked.0)) rep.fits (plain_suits ps m.points ks s t);
+          rep = rm.rep (line ps m.points ks) ps (area_at ps) t halves_faithful pl (ring_same (λ i a b. same p i) rep.ring) w
+              (omega (arith, rep.room, p.picked.0)) rep.fits (plain_suits ps m.points ks s);
         };
   }
     where
@@ -113,14 +105,6 @@ module _ (us vs : List Float) {fs : List Float} {ws : List ℕ} {m : Layout} {le
       only =
           let l = p.picked.1 in
           unlinked_only ws₁ m s 0 m.points (omega arith) (omega arith, l.left) (omega arith, l.current) (omega arith, l.right)
-
--- in a slot: the coordinates stand in the same floats, past the heap
-pub step_own : {fs : List Float} {ws : List ℕ} {m : Layout} {len : ℕ} {t : Float} → Room m fs ws → len ≤ m.capacity → m.capacity ≤ m.x → m.capacity ≤ m.y
-    → {fs₁ : List Float} {ws₁ : List ℕ} {s : VScore} {k : ℕ} → PickDone fs ws m len t fs₁ ws₁ (Found s k)
-    → {fs₂ : List Float} {ws₂ : List ℕ} {n : ℕ} → Removed fs₁ fs₁ fs₁ ws₁ m k s false t fs₂ ws₂ n
-    → StepDone fs fs fs ws m len t fs₂ ws₂ (stepped.Removed s.current s.area n)
-step_own {fs} {ws} {m} room le hx hy {fs₁} p rm =
-    step_removed fs fs room le p (λ ps. placed_same m fs fs₁ hx hy (λ i h. p.framed.floats i (omega arith))) rm
 
 -- ---- the beginning of a line: linked, and seeded
 

@@ -1,5 +1,6 @@
 -- One step of the plain rule: nothing is demoted, and scores are doubled areas. Assumes nothing.
-use Rattle.std.specs.Prelude.{◌≡◌, true, List, ℕ, ◌+◌, ◌*◌, ◌≤◌, ◌<◌, get_or, Float}
+use Rattle.std.specs.Prelude.{◌≡◌, true, List, ℕ, ◌+◌, ◌*◌, ◌≤◌, ◌<◌, get_or, Float, Some, None}
+use Rattle.std.specs.Prelude as prelude
 use Rattle.std.proofs.Math.Option.{none, some}
 use Rattle.std.specs.Float.{nan}
 use Rattle.rule.specs.Grid.{Point, half, is_finite}
@@ -9,8 +10,7 @@ use Rattle.vscore.specs.Scale.{halves}
 use Rattle.layout.specs.Points.{PlacedIn}
 use Rattle.thin.specs.Queue.{View}
 use Rattle.thin.specs.State.{Rep}
-use Rattle.thin.specs.declared.Stepped.{Stepped}
-use Rattle.thin.specs.declared.Stepped.TheVariants as stepped
+use Rattle.thin.specs.declared.Removal.{Removal}
 
 -- the line of n points ps, of which ks are kept
 abbrev pub line : List Point → ℕ → List ℕ → View
@@ -31,17 +31,14 @@ pub record Over (ps : List Point) (t : Float) (ks : List ℕ) (fs' : List Float)
   pub next_is : next ps t ks ≡ none
   pub rep : LineRep ps ks fs' ws' m k
 
-abbrev pub StepIs : List Point → Float → List ℕ → List Float → List ℕ → Layout → Stepped → Type 0
-StepIs ps t ks fs' ws' m (stepped.Removed i a k) = Gone ps t ks i a fs' ws' m k
-StepIs ps t ks fs' ws' m (stepped.Finished k) = Over ps t ks fs' ws' m k
+abbrev pub StepIs : List Point → Float → List ℕ → List Float → List ℕ → Layout → ℕ → prelude.Option Removal → Type 0
+StepIs ps t ks fs' ws' m k (Some r) = Gone ps t ks r.index r.area fs' ws' m k
+StepIs ps t ks fs' ws' m k None = Over ps t ks fs' ws' m k
 
-abbrev pub scores : Stepped → ℕ
-scores (stepped.Removed i a k) = k
-scores (stepped.Finished k) = k
-
-pub record StepDone (us vs : List Float) (fs : List Float) (ws : List ℕ) (m : Layout) (len : ℕ) (t : Float) (fs' : List Float) (ws' : List ℕ) (r : Stepped) : Type 0 where
+pub record StepDone (us vs : List Float) (fs : List Float) (ws : List ℕ) (m : Layout) (len : ℕ) (t : Float)
+    (fs' : List Float) (ws' : List ℕ) (k : ℕ) (r : prelude.Option Removal) : Type 0 where
   pub floats : (i : ℕ) → m.capacity ≤ i → get_or fs' i nan ≡ get_or fs i nan
   pub before : (i : ℕ) → i < m.heap → get_or ws' i 0 ≡ get_or ws i 0
   pub after : (i : ℕ) → m.links + 3 * m.points ≤ i → get_or ws' i 0 ≡ get_or ws i 0
-  pub few : scores r ≤ m.capacity
-  pub does : (ps : List Point) (ks : List ℕ) → is_finite t ≡ true → PlacedIn us vs m ps → LineRep ps ks fs ws m len → StepIs ps t ks fs' ws' m r
+  pub few : k ≤ m.capacity
+  pub does : (ps : List Point) (ks : List ℕ) → is_finite t ≡ true → PlacedIn us vs m ps → LineRep ps ks fs ws m len → StepIs ps t ks fs' ws' m k r

@@ -1,5 +1,6 @@
 -- A heap of scores that has each candidate of the kept points, with stale ones among them, for both rules; and what picking gives. Assumes nothing.
-use Rattle.std.specs.Prelude.{◌≡◌, Bool, cond, ◌&&◌, List, ℕ, ◌≤◌, ◌<◌, eqb, Float}
+use Rattle.std.specs.Prelude.{◌≡◌, Bool, cond, ◌&&◌, List, ℕ, ◌≤◌, ◌<◌, eqb, Float, Some, None}
+use Rattle.std.specs.Prelude as prelude
 use Rattle.std.proofs.Math.Option.{Option, none, some}
 use Rattle.std.specs.Float.Ieee.{lt}
 use Rattle.rule.specs.Plain.{Candidate, least}
@@ -12,8 +13,6 @@ use Rattle.scores.specs.Scores.{Proper}
 use Rattle.heap.specs.Order.{count}
 use Rattle.heap.specs.Heap.{Heap}
 use Rattle.links.specs.Ring.{In, Triple, Ring, Live}
-use Rattle.thin.specs.declared.Picked.{Picked}
-use Rattle.thin.specs.declared.Picked.TheVariants.{Found, Nothing}
 
 -- What the memory stands for: the scale of areas, the score of three points now, the ring's points from lo to hi, and those kept.
 pub record View : Type 0 where
@@ -75,13 +74,14 @@ pub record Pick (v : View) (fs : List Float) (ws : List ℕ) (m : Layout) (len :
   pub queue : QueueOf v fs ws m len (But v.kept s)
 
 -- What is picked from the first len places: stale scores go, and then the first score goes, unless its area is above the tolerance.
-abbrev pub PickIs : List Float → List ℕ → Layout → ℕ → Float → List Float → List ℕ → Picked → Type 0
-PickIs fs ws m len t fs' ws' (Found s k) = (k < len) × Live ws' m s
+abbrev pub PickIs : List Float → List ℕ → Layout → ℕ → Float → List Float → List ℕ → ℕ → prelude.Option VScore → Type 0
+PickIs fs ws m len t fs' ws' k (Some s) = (k < len) × Live ws' m s
     × ((v : View) → Faithful v.scale → RingOf v ws m → QueueOf v fs ws m len (Triple v.kept) → Pick v fs' ws' m k t s)
-PickIs fs ws m len t fs' ws' (Nothing k) = (k ≤ len)
+PickIs fs ws m len t fs' ws' k None = (k ≤ len)
     × ((v : View) → Faithful v.scale → RingOf v ws m → QueueOf v fs ws m len (Triple v.kept)
     → (Choice v t ≡ none) × QueueOf v fs' ws' m k (Triple v.kept))
 
-pub record PickDone (fs : List Float) (ws : List ℕ) (m : Layout) (len : ℕ) (t : Float) (fs' : List Float) (ws' : List ℕ) (r : Picked) : Type 0 where
+pub record PickDone (fs : List Float) (ws : List ℕ) (m : Layout) (len : ℕ) (t : Float)
+    (fs' : List Float) (ws' : List ℕ) (k : ℕ) (r : prelude.Option VScore) : Type 0 where
   pub framed : Framed fs ws m len fs' ws'
-  pub picked : PickIs fs ws m len t fs' ws' r
+  pub picked : PickIs fs ws m len t fs' ws' k r

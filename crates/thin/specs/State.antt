@@ -1,6 +1,6 @@
 -- A ring under way in lent memory, in a scratch and in a slot's part alike, for both rules; how it begins, and what a removal does to it.
 -- Assumes nothing.
-use Rattle.std.specs.Prelude.{◌≡◌, Bool, List, ℕ, suc, ◌+◌, ◌*◌, ◌-◌, ◌≤◌, ◌<◌, length, get_or, Float}
+use Rattle.std.specs.Prelude.{◌≡◌, Option, List, ℕ, suc, ◌+◌, ◌*◌, ◌-◌, ◌≤◌, ◌<◌, length, get_or, Float}
 use Rattle.std.specs.Float.{nan}
 use Rattle.rule.specs.Grid.{Point, half}
 use Rattle.rule.specs.Plain.{indices, without, area_at}
@@ -32,20 +32,20 @@ abbrev pub less : View → VScore → (ℕ → ℕ → ℕ → ℕ) → View
 less v s g = record { scale = v.scale; score = g; lo = v.lo; hi = v.hi; kept = without s.current v.kept }
 
 -- The scores g suit the state without s's point: as before for what keeps the neighbours it had, and by the areas put on for the point's two neighbours.
-pub record Suits (v : View) (s : VScore) (ps : List Point) (g : ℕ → ℕ → ℕ → ℕ) (demote : Bool) (t : Float) : Type 0 where
+pub record Suits (v : View) (s : VScore) (ps : List Point) (g : ℕ → ℕ → ℕ → ℕ) (demotion : Option Float) : Type 0 where
   pub stay : (l c r : ℕ) → (c ≡ s.left → ⊥) → (c ≡ s.right → ⊥) → g l c r ≡ v.score l c r
-  pub left : (a : ℕ) → priced demote t (area_at ps a s.left s.right) ≡ v.scale.value (g a s.left s.right)
+  pub left : (a : ℕ) → priced demotion (area_at ps a s.left s.right) ≡ v.scale.value (g a s.left s.right)
   pub right : (b : ℕ) → half (area_at ps s.left s.right b) ≡ v.scale.value (g s.left s.right b)
 
 -- A picked point removed: whatever scores suit, the state is that without it. Nothing but the heap and the links changes.
-pub record Removed (us vs : List Float) (fs : List Float) (ws : List ℕ) (m : Layout) (len : ℕ) (s : VScore) (demote : Bool) (t : Float)
+pub record Removed (us vs : List Float) (fs : List Float) (ws : List ℕ) (m : Layout) (len : ℕ) (s : VScore) (demotion : Option Float)
     (fs' : List Float) (ws' : List ℕ) (r : ℕ) : Type 0 where
   pub floats : (i : ℕ) → m.capacity ≤ i → get_or fs' i nan ≡ get_or fs i nan
   pub before : (i : ℕ) → i < m.heap → get_or ws' i 0 ≡ get_or ws i 0
   pub links : (i : ℕ) → m.links ≤ i → get_or ws' i 0 ≡ get_or (unlinked ws m s) i 0
   pub few : r ≤ m.capacity
-  pub rep : (v : View) (ps : List Point) (g : ℕ → ℕ → ℕ → ℕ) → Faithful v.scale → PlacedIn us vs m ps → RingOf v ws m → Pick v fs ws m len t s
-      → suc len + (length v.kept - 2) ≤ most m → most m ≤ m.capacity → Suits v s ps g demote t → Rep (less v s g) fs' ws' m r
+  pub rep : (v : View) (ps : List Point) (g : ℕ → ℕ → ℕ → ℕ) (t : Float) → Faithful v.scale → PlacedIn us vs m ps → RingOf v ws m → Pick v fs ws m len t s
+      → suc len + (length v.kept - 2) ≤ most m → most m ≤ m.capacity → Suits v s ps g demotion → Rep (less v s g) fs' ws' m r
 
 -- ---- the beginning
 

@@ -9,6 +9,7 @@ use lib.Dec.{eqb}
 use lib.ListN.{length}
 use lib.Ieee.{Float}
 use borrow.Author.Tests.{eqb-true, eqb-false, eq-eqb, ne_eqb}
+use Rattle.std.specs.Bool.{then_some}
 use Rattle.rule.specs.Grid.{is_finite, positive}
 use Rattle.rule.specs.Plain.{Candidate, least, without, area_at}
 use Rattle.rule.specs.Preserve.{Minima, member, score_of, score_within, crosses, Move, stop, unless_few, move_of, move, demoted}
@@ -86,7 +87,7 @@ module _ (c : Candidate) (d : List ℕ) (o : Once d) (lr : c.left < c.right) whe
 
 module _ (g : Setting) (t : Float) (dem ks : List ℕ) where
   pub suits : (s : VScore) (crossed : Bool) → Once dem → s.left < s.right
-      → Suits (view g t dem ks) s g.points (score_of g.points (demoted (candidate_of (view g t dem ks) s) crossed dem)) crossed t
+      → Suits (view g t dem ks) s g.points (score_of g.points (demoted (candidate_of (view g t dem ks) s) crossed dem)) (then_some crossed t)
   unfolding score_of
   suits s crossed o lr = record {
     stay = λ l i r nl nr. ap (λ (b : Bool). cond b 0 (suc (area_at g.points l i r))) (at_other c dem o lr crossed i nl nr);
@@ -98,7 +99,7 @@ module _ (g : Setting) (t : Float) (dem ks : List ℕ) where
       c : Candidate
       c = candidate_of (view g t dem ks) s
 
-      price : (b : Bool) (d : ℕ) → priced b t d ≡ lowered t (cond b 0 (suc d))
+      price : (b : Bool) (d : ℕ) → priced (then_some b t) d ≡ lowered t (cond b 0 (suc d))
       price true d = refl
       price false d = refl
 

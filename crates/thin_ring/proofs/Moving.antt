@@ -1,14 +1,15 @@
 -- One move of the preserving rule: what the calls say, put together. Assumes nothing.
 use mathlib.Core.Path.{◌≡◌, refl, sym, ◌∙◌, subst}
-use mathlib.Core.Bool.{Bool, true, false, ◌&&◌}
+use mathlib.Core.Bool.{Bool, true, false}
 use mathlib.Core.List.{List, ◌∷◌, ◌++◌}
 use mathlib.Core.Logic.{◌⊎◌, inl, inr}
 use Prim.Native.Nat.{ℕ, ◌≤◌, ◌<◌}
 use native.Mathlib.Omega.{arith}
-use lib.Dec.{leb}
 use lib.ListN.{length}
 use lib.Ieee.{Float}
 use borrow.Author.Tests.{le-leb, lt-leb}
+use Rattle.std.specs.Prelude.{Some, None}
+use Rattle.std.specs.Bool.{then_some}
 use Rattle.rule.specs.Plain.{Candidate}
 use Rattle.rule.specs.Preserve.{Minima, score_of, crosses, stop, remove, unless_few, demoted}
 use Rattle.layout.specs.declared.Layout.{Layout}
@@ -20,7 +21,6 @@ use Rattle.links.specs.Ring.{Ring}
 use Rattle.links.proofs.Ring.{ring_in}
 use Rattle.links.proofs.Memory.{same_from, ring_same, unlinked_only}
 use Rattle.links.proofs.Rings.{rings_same, rings_append}
-use Rattle.thin.specs.declared.Picked.TheVariants.{Found, Nothing}
 use Rattle.scoring.specs.Plot.{Points}
 use Rattle.thin.specs.Queue.{Pick, PickDone, candidate_of}
 use Rattle.thin.specs.State.{Removed}
@@ -33,24 +33,25 @@ use Rattle.blocks.proofs.Kept.{boxed_same, boxed_removed}
 use Rattle.crossing.specs.Crossing.{CrossesIs}
 use Rattle.crossing.proofs.Crossing.{cross_order}
 use Rattle.thin_ring.specs.State.{Setting, beside, move_in, view, Others, State, Given, Outside}
-use Rattle.thin_ring.specs.Calls.{minima, Removal, Untouched, MoveDone}
-use Rattle.thin_ring.specs.declared.Moved.TheVariants as moved
+use Rattle.thin_ring.specs.Calls.{of_minima, Removal, Untouched, MoveDone}
+use Rattle.thin_ring.specs.declared.Minima as declared
 use Rattle.thin_ring.proofs.Demoting.{once_demoted, suits, unless, move_none, move_some}
 
 -- ---- the minima
 
-module _ (q : Minima) (n : ℕ) (c : Candidate) (crossed : Bool) where
-  few_first : n ≤ q.first → unless_few q n c crossed ≡ stop
+module _ (q : Minima) (n : ℕ) (c : Candidate) where
+  few_first : (crossed : Bool) → n ≤ q.first → unless_few q n c crossed ≡ stop
   unfolding unless_few
-  few_first h = rw (le-leb n q.first h)
+  few_first crossed h = rw (le-leb n q.first h)
 
-  few_second : q.first < n → (crossed && leb n q.second) ≡ true → unless_few q n c crossed ≡ stop
+  few_second : q.first < n → n ≤ q.second → unless_few q n c true ≡ stop
   unfolding unless_few
-  few_second h e = rw (lt-leb n q.first h, e)
+  few_second h e = rw (lt-leb n q.first h, le-leb n q.second e)
 
-  enough : q.first < n → (crossed && leb n q.second) ≡ false → unless_few q n c crossed ≡ remove c crossed
+  enough : (crossed : Bool) → q.first < n → ((crossed ≡ true) × (q.second < n)) ⊎ (crossed ≡ false) → unless_few q n c crossed ≡ remove c crossed
   unfolding unless_few
-  enough h e = rw (lt-leb n q.first h, e)
+  enough crossed h (inl e) = rw (lt-leb n q.first h, e.0, lt-leb n q.second e.1)
+  enough crossed h (inr e) = rw (lt-leb n q.first h, e)
 
 -- ---- the other rings
 
@@ -67,14 +68,14 @@ others_same {g} {ws} {ws'} {m} e l o = record {
 
 -- ---- the move
 
-module _ (bl : Blocks) (us vs fs : List Float) (ws : List ℕ) (m : Layout) (len count first second : ℕ) (t : Float) (room : Room m fs ws) (few : len ≤ m.capacity)
-    (free : Free bl m fs) where
+module _ (bl : Blocks) (us vs fs : List Float) (ws : List ℕ) (m : Layout) (len count : ℕ) (minima : declared.Minima) (t : Float) (room : Room m fs ws)
+    (few : len ≤ m.capacity) (free : Free bl m fs) where
   abbrev q : Minima
-  q = minima first second
+  q = of_minima minima
 
   module _ {fs₁ : List Float} {ws₁ : List ℕ} where
-    module _ {k : ℕ} (p : PickDone fs ws m len t fs₁ ws₁ (Nothing k)) where
-      pub stop_nothing : MoveDone bl us vs fs ws m len count q t fs₁ ws₁ moved.Stopped
+    module _ {k : ℕ} (p : PickDone fs ws m len t fs₁ ws₁ k None) where
+      pub stop_nothing : MoveDone bl us vs fs ws m len count q t fs₁ ws₁ k false
       stop_nothing = record {
         frame = record {
           floats = λ i h. p.framed.floats i (omega (arith, free.past));
@@ -88,7 +89,7 @@ module _ (bl : Blocks) (us vs fs : List Float) (ws : List ℕ) (m : Layout) (len
         );
       }
 
-    module _ {s : VScore} {k : ℕ} (p : PickDone fs ws m len t fs₁ ws₁ (Found s k)) where
+    module _ {s : VScore} {k : ℕ} (p : PickDone fs ws m len t fs₁ ws₁ k (Some s)) where
       untouched : Untouched bl fs ws m fs₁ ws₁
       untouched = record { boxes = λ i h. p.framed.floats i (omega (arith, free.past)); links = λ i h. p.framed.after i (omega (arith, room.scores)) }
 
@@ -135,22 +136,23 @@ module _ (bl : Blocks) (us vs fs : List Float) (ws : List ℕ) (m : Layout) (len
         by_count : {b : Bool} → count ≡ length ks → CrossesIs bl m us vs fs₁ ws₁ s.left s.right b → move_in g t q dem ks ≡ unless_few q count c b
         by_count e d = moves ∙ rw (crossing d, e)
 
-      pub stop_first : count ≤ first → MoveDone bl us vs fs ws m len count q t fs₁ ws₁ moved.Stopped
+      pub stop_first : count ≤ q.first → MoveDone bl us vs fs ws m len count q t fs₁ ws₁ k false
       stop_first h = record {
         frame = picked_frame;
         moved = (untouched, λ g dem ks a e st. moves g dem ks a st ∙ few_first q (length ks) _ _ (omega arith));
       }
 
-      module _ {b : Bool} (over : first < count) (d : CrossesIs bl m us vs fs₁ ws₁ s.left s.right b) where
-        pub stop_second : (b && leb count second) ≡ true → MoveDone bl us vs fs ws m len count q t fs₁ ws₁ moved.Stopped
-        stop_second z = record {
-          frame = picked_frame;
-          moved = (untouched, λ g dem ks a e st. by_count g dem ks a st e d ∙ few_second q count (c g dem ks a st) b over z);
-        }
+      pub stop_second : q.first < count → CrossesIs bl m us vs fs₁ ws₁ s.left s.right true → count ≤ q.second
+          → MoveDone bl us vs fs ws m len count q t fs₁ ws₁ k false
+      stop_second over d h = record {
+        frame = picked_frame;
+        moved = (untouched, λ g dem ks a e st. by_count g dem ks a st e d ∙ few_second q count (c g dem ks a st) over h);
+      }
 
+      module _ {b : Bool} (over : q.first < count) (d : CrossesIs bl m us vs fs₁ ws₁ s.left s.right b) where
         -- the point goes, and the new segment's block is widened by it
-        module _ (z : (b && leb count second) ≡ false) (ps : Points m.points s.left s.current s.right) (links₁ : HasLinks m ws₁)
-            {fs₂ : List Float} {ws₂ : List ℕ} {n : ℕ} (rm : Removed us vs fs₁ ws₁ m k s b t fs₂ ws₂ n) (has₂ : HasBoxes bl fs₂) where
+        module _ (z : ((b ≡ true) × (q.second < count)) ⊎ (b ≡ false)) (ps : Points m.points s.left s.current s.right) (links₁ : HasLinks m ws₁)
+            {fs₂ : List Float} {ws₂ : List ℕ} {n : ℕ} (rm : Removed us vs fs₁ ws₁ m k s (then_some b t) fs₂ ws₂ n) (has₂ : HasBoxes bl fs₂) where
           abbrev fs₃ : List Float
           fs₃ = covered bl m us vs s.left s.right fs₂
 
@@ -178,7 +180,7 @@ module _ (bl : Blocks) (us vs fs : List Float) (ws : List ℕ) (m : Layout) (len
                 moves = by_count g dem ks a st e d ∙ enough q count x b over z;
                 state = record {
                   rep = rep_floats (λ i h. only.before i (omega (arith, free.past)))
-                      (rm.rep v g.points (score_of g.points (demoted x b dem)) (demotable_faithful t a.above) a.placed (here g dem ks a st) k₁
+                      (rm.rep v g.points (score_of g.points (demoted x b dem)) t (demotable_faithful t a.above) a.placed (here g dem ks a st) k₁
                       (omega (arith, st.rep.room, p.picked.0)) st.rep.fits (suits g t dem ks s b st.once (omega (arith, tr.low.up, tr.high.up))));
                   once = once_demoted x b dem st.once;
                   others = others_same (outside g.lo g.hi st.rep.ring.to (l.low, l.high) (o.low, o.high) (r.low, r.high)) (to g dem ks a st) st.others;
@@ -188,8 +190,8 @@ module _ (bl : Blocks) (us vs fs : List Float) (ws : List ℕ) (m : Layout) (len
                 };
               }
 
-          pub goes : {fs' : List Float} → fs' ≡ fs₃ → MoveDone bl us vs fs ws m len count q t fs' ws₂ (moved.Removed n)
-          goes e = subst (λ (f : List Float). MoveDone bl us vs fs ws m len count q t f ws₂ (moved.Removed n)) (sym e) (record {
+          pub goes : {fs' : List Float} → fs' ≡ fs₃ → MoveDone bl us vs fs ws m len count q t fs' ws₂ n true
+          goes e = subst (λ (f : List Float). MoveDone bl us vs fs ws m len count q t f ws₂ n true) (sym e) (record {
             frame = record {
               floats = λ i h. only.after i h ∙ rm.floats i (omega (arith, free.past)) ∙ picked_frame.floats i h;
               before = λ i h. rm.before i h ∙ picked_frame.before i h;

@@ -1,6 +1,6 @@
 -- The loop over a ring's moves, and a ring from its beginning to its end. Assumes nothing.
 use mathlib.Core.Path.{◌≡◌, refl, sym, ◌∙◌, subst}
-use mathlib.Core.Bool.{Bool}
+use mathlib.Core.Bool.{Bool, true, false}
 use mathlib.Core.List.{List, [], ◌∷◌}
 use Prim.Native.Nat.{ℕ, zero, suc, ◌-◌, ◌≤◌}
 use native.Mathlib.Omega.{arith}
@@ -23,8 +23,6 @@ use Rattle.blocks.specs.Boxes.{Free, boxes_end}
 use Rattle.blocks.proofs.Kept.{boxed_same}
 use Rattle.thin_ring.specs.State.{Setting, beside, move_in, left_in, State, Ended, Given, Outside}
 use Rattle.thin_ring.specs.Calls.{Untouched, MoveDone, RunDone, RingDone}
-use Rattle.thin_ring.specs.declared.Moved.{Moved}
-use Rattle.thin_ring.specs.declared.Moved.TheVariants as moved
 use Rattle.thin_ring.proofs.Moving.{others_same}
 
 -- ---- the rule, one move at a time
@@ -84,15 +82,6 @@ pub record Going (b : Blocks) (us vs fs : List Float) (ws : List ℕ) (m : Layou
   pub under : (g : Setting) (dem ks : List ℕ) → Given us vs m t g → count ≡ length ks → State b g t dem ks fs ws m len → Under b g t q dem ks fs' ws' m k kept
 
 module _ {b : Blocks} {us vs fs : List Float} {ws : List ℕ} {m : Layout} {len count : ℕ} {q : Minima} {t : Float} where
-  pub run_start : len ≤ m.capacity → Going b us vs fs ws m len count q t fs ws len count
-  run_start h = record {
-    floats = refl;
-    words = refl;
-    few = h;
-    frame = outside_self (boxes_end b) fs ws m;
-    under = λ g dem ks a e st. record { dem' = dem; ks' = ks; state = st; number = e; same = refl };
-  }
-
   module _ {fs' : List Float} {ws' : List ℕ} {k kept : ℕ} (s : Going b us vs fs ws m len count q t fs' ws' k kept) where
     -- the links are those of a state from which the rule removes nothing
     ended : (fs'' : List Float) (ws'' : List ℕ) → Untouched b fs' ws' m fs'' ws'' → (g : Setting) (dem ks : List ℕ) (u : Under b g t q dem ks fs' ws' m k kept)
@@ -118,7 +107,7 @@ module _ {b : Blocks} {us vs fs : List Float} {ws : List ℕ} {m : Layout} {len 
     }
 
     module _ {fs'' : List Float} {ws'' : List ℕ} where
-      pub run_stop : MoveDone b us vs fs' ws' m k kept q t fs'' ws'' moved.Stopped → RunDone b us vs fs ws m len count q t fs'' ws''
+      pub run_stop : {j : ℕ} → MoveDone b us vs fs' ws' m k kept q t fs'' ws'' j false → RunDone b us vs fs ws m len count q t fs'' ws''
       run_stop d = record {
         frame = outside_then s.frame d.frame;
         does = λ g dem ks a e st.
@@ -126,7 +115,7 @@ module _ {b : Blocks} {us vs fs : List Float} {ws : List ℕ} {m : Layout} {len 
             ended fs'' ws'' d.moved.0 g dem ks u (left_stop g t q u.dem' u.ks' (d.moved.1 g u.dem' u.ks' a u.number u.state));
       }
 
-      pub run_turn : {j : ℕ} → length fs'' ≡ length fs' → length ws'' ≡ length ws' → MoveDone b us vs fs' ws' m k kept q t fs'' ws'' (moved.Removed j)
+      pub run_turn : {j : ℕ} → length fs'' ≡ length fs' → length ws'' ≡ length ws' → MoveDone b us vs fs' ws' m k kept q t fs'' ws'' j true
           → Going b us vs fs ws m len count q t fs'' ws'' j (kept - 1)
       run_turn {j} lf lw d = record {
         floats = lf ∙ s.floats;
@@ -144,9 +133,6 @@ module _ {b : Blocks} {us vs fs : List Float} {ws : List ℕ} {m : Layout} {len 
               same = u.same ∙ left_goes g t q u.dem' u.ks' r.candidate r.crossed r.moves;
             };
       }
-
-  pub moved_as : {fs' : List Float} {ws' : List ℕ} {r o : Moved} → r ≡ o → MoveDone b us vs fs ws m len count q t fs' ws' r → MoveDone b us vs fs ws m len count q t fs' ws' o
-  moved_as {fs'} {ws'} e d = subst (λ (z : Moved). MoveDone b us vs fs ws m len count q t fs' ws' z) e d
 
 -- ---- a whole ring
 

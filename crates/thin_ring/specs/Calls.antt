@@ -1,5 +1,5 @@
 -- What one move and one ring promise. Assumes nothing.
-use Rattle.std.specs.Prelude.{◌≡◌, Bool, List, [], ℕ, ◌-◌, ◌≤◌, length, get_or, Float}
+use Rattle.std.specs.Prelude.{◌≡◌, Bool, true, false, List, [], ℕ, ◌-◌, ◌≤◌, length, get_or, Float}
 use Rattle.std.specs.Float.{nan}
 use Rattle.rule.specs.Plain.{Candidate, indices, without}
 use Rattle.rule.specs.Preserve.{Minima, stop, remove, demoted}
@@ -8,11 +8,11 @@ use Rattle.blocks.specs.declared.Blocks.{Blocks}
 use Rattle.blocks.specs.Boxes.{boxes_end}
 use Rattle.thin.specs.State.{most}
 use Rattle.thin_ring.specs.State.{Setting, move_in, left_in, State, Ended, Given, Outside}
-use Rattle.thin_ring.specs.declared.Moved.{Moved}
-use Rattle.thin_ring.specs.declared.Moved.TheVariants.{Removed, Stopped}
+use Rattle.thin_ring.specs.declared.Minima as declared
 
-abbrev pub minima : ℕ → ℕ → Minima
-minima first second = record { first = first; second = second }
+-- the rule's minima, as the code has them
+abbrev pub of_minima : declared.Minima → Minima
+of_minima q = record { first = q.first; second = q.second }
 
 -- ---- one move
 
@@ -28,15 +28,18 @@ pub record Untouched (b : Blocks) (fs : List Float) (ws : List ℕ) (m : Layout)
   pub boxes : (i : ℕ) → b.at ≤ i → get_or fs' i nan ≡ get_or fs i nan
   pub links : (i : ℕ) → m.links ≤ i → get_or ws' i 0 ≡ get_or ws i 0
 
-abbrev pub MoveIs : Blocks → (us vs fs : List Float) (ws : List ℕ) (m : Layout) (len count : ℕ) (q : Minima) (t : Float) (fs' : List Float) (ws' : List ℕ) → Moved → Type 0
-MoveIs b us vs fs ws m len count q t fs' ws' Stopped = Untouched b fs ws m fs' ws'
+-- a removal, with so many scores left; or the ring's end
+abbrev pub MoveIs : Blocks → (us vs fs : List Float) (ws : List ℕ) (m : Layout) (len count : ℕ) (q : Minima) (t : Float) (fs' : List Float) (ws' : List ℕ)
+    (k : ℕ) → Bool → Type 0
+MoveIs b us vs fs ws m len count q t fs' ws' k false = Untouched b fs ws m fs' ws'
     × ((g : Setting) (dem ks : List ℕ) → Given us vs m t g → count ≡ length ks → State b g t dem ks fs ws m len → move_in g t q dem ks ≡ stop)
-MoveIs b us vs fs ws m len count q t fs' ws' (Removed k) = (k ≤ m.capacity)
+MoveIs b us vs fs ws m len count q t fs' ws' k true = (k ≤ m.capacity)
     × ((g : Setting) (dem ks : List ℕ) → Given us vs m t g → count ≡ length ks → State b g t dem ks fs ws m len → Removal b g t q dem ks fs' ws' m k)
 
-pub record MoveDone (b : Blocks) (us vs fs : List Float) (ws : List ℕ) (m : Layout) (len count : ℕ) (q : Minima) (t : Float) (fs' : List Float) (ws' : List ℕ) (r : Moved) : Type 0 where
+pub record MoveDone (b : Blocks) (us vs fs : List Float) (ws : List ℕ) (m : Layout) (len count : ℕ) (q : Minima) (t : Float)
+    (fs' : List Float) (ws' : List ℕ) (k : ℕ) (r : Bool) : Type 0 where
   pub frame : Outside (boxes_end b) fs ws m fs' ws'
-  pub moved : MoveIs b us vs fs ws m len count q t fs' ws' r
+  pub moved : MoveIs b us vs fs ws m len count q t fs' ws' k r
 
 -- ---- one ring
 

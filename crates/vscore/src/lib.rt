@@ -17,31 +17,28 @@ impl VScore {
         ensures { result ≡ score left current right area }
     {
         VScore {
-            left: left,
-            current: current,
-            right: right,
-            area: area,
+            left,
+            current,
+            right,
+            area,
         }
     }
 
     // By area, then by the lower index.
+    #[tactic(auto, unfolding(crate::specs::Score::sooner))]
     pub fn sooner(self, other: VScore) -> bool
         ensures { result ≡ sooner self other }
     {
-        if self.area < other.area {
-            return true;
-        }
-        if self.area == other.area {
-            return self.current < other.current;
-        }
-        false
+        self.area < other.area || (self.area == other.area && self.current < other.current)
     }
 
     // The score with minus the tolerance as its area.
-    pub fn demoted(mut self, tolerance: f64) -> VScore
+    pub fn demoted(self, tolerance: f64) -> VScore
         ensures { result ≡ demoted_by tolerance self }
     {
-        self.area = -tolerance;
-        self
+        VScore {
+            area: -tolerance,
+            ..self
+        }
     }
 }

@@ -1,9 +1,7 @@
-use Prim.Native.Nat.{◌-◌}
 use Rattle.crossing.proofs.Passing.{Tested}
 use Rattle.crossing.proofs.crosses.Given as goal
 
-abbrev pub invariant-loop-start : goal.invariant-loop-start
-invariant-loop-start l = Tested l.b l.m l.x l.y l.floats l.words l.l l.r l.from l.start l.k
-
-abbrev pub decreases-loop-start : goal.decreases-loop-start
-decreases-loop-start l = l.m.points - l.start
+abbrev pub invariant-loop-k : goal.invariant-loop-k
+invariant-loop-k l =
+    let p = l.present in
+    Tested l.b p.plot.m p.plot.x.now p.plot.y.now p.floats.now p.words.now l.l l.r l.from l.k

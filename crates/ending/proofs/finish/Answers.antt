@@ -3,9 +3,6 @@ use native.Mathlib.Omega.{arith}
 use Rattle.ending.proofs.Whole.{few_listed, listed_keeps}
 use Rattle.ending.proofs.finish.Goals as goal
 
-pub list_kept-count-requires : goal.list_kept-count-requires
-list_kept-count-requires c = rw c.scratch.ensures (omega arith, omega arith)
-
 pub returns : goal.returns
 returns c =
     listed_keeps c.scratch.ensures c.requires.1 c.list_kept-count.ensures c.zero_scratch.ensures.0 c.zero_scratch.ensures.1

@@ -1,26 +1,16 @@
 -- `heap::push` meets its contract. Assumes nothing.
 use mathlib.Core.Path.{sym, ◌∙◌}
-use native.Mathlib.Omega.{arith}
-use Rattle.heap.proofs.Rising.{up_start, up_holds, up_turn, up_end, up_stop, up_rest}
+use Rattle.heap.proofs.Rising.{up_start, up_turn, up_end, up_stop, up_rest}
 use Rattle.heap.proofs.push.Goals as goal
 use Rattle.heap.proofs.push.Goals.{else-loop-j-test, then-loop-j-test+then-not-sooner}
 
 pub loop-j-init : goal.loop-j-init
 loop-j-init c = up_start _ c.requires
 
-pub load-e-requires : goal.load-e-requires
-load-e-requires c = let u = c.loop-j.invariant in up_holds u (omega (arith, u.low))
-
-pub store-requires : goal.store-requires
-store-requires c = let u = c.loop-j.invariant in up_holds u u.low
-
 pub loop-j-preserved : goal.loop-j-preserved
 loop-j-preserved c =
     up_turn c.loop-j.invariant c.loop-j-test.true c.load-e.ensures
     (sym c.sooner.ensures ∙ c.if-not-sooner.false) c.store.ensures
-
-pub store-requires-2 : goal.store-requires-2
-store-requires-2 c = let u = c.loop-j.invariant in up_holds u u.low
 
 pub returns : goal.returns
 returns c =

@@ -1,13 +1,13 @@
 -- `reasons::repeat_reason` meets its contract: the reasons of a line with a tolerance that is finite, then that of the output. Assumes nothing.
 use mathlib.Core.Path.{◌≡◌, sym, ◌∙◌}
-use mathlib.Core.Bool.{true}
+use mathlib.Core.Bool.{Bool, cond}
 use mathlib.Core.List.{List, [], ◌∷◌}
 use Prim.Native.Nat.{ℕ}
 use lib.ListN.{length}
 use lib.Ieee.{Float, of_bits}
-use Rattle.rule.specs.declared.Outcome.{Outcome}
-use Rattle.rule.specs.declared.Outcome.TheVariants.{Done, Refused}
-use Rattle.rule.specs.declared.Reason.TheVariants.{OutputShort}
+use Rattle.std.specs.Prelude.{⊤, Result, Ok}
+use Rattle.std.proofs.lemmas.Result.{err_from_is_err_and}
+use Rattle.rule.specs.declared.Reason.{Reason}
 use Rattle.rule.specs.Answers.{of_outcome}
 use Rattle.rule.specs.Area.{zero_float}
 use Rattle.rule.specs.Reasons.{first_of, first_off_grid, line_rows, output_short, repeat_reason}
@@ -16,30 +16,25 @@ use Rattle.reasons.proofs.Verdict.{refused_before, rows_passed}
 use Rattle.reasons.proofs.repeat_reason.Goals as goal
 
 -- after the reasons of the line
-then : {o : Outcome} (us vs : List Float) (room : ℕ) → of_outcome o ≡ verdict (first_of (line_rows us vs zero_float)) (first_off_grid us vs) → o ≡ Done
-    → repeat_reason us vs room ≡ first_of (output_short room (length us) ∷ [])
+then : {o : Result ⊤ Reason} {b : Bool} (us vs : List Float) (room : ℕ) → of_outcome o ≡ verdict (first_of (line_rows us vs zero_float)) (first_off_grid us vs) → o ≡ Ok tt
+    → (output_short room (length us)).applies ≡ b → repeat_reason us vs room ≡ cond b 7 0
 unfolding repeat_reason
-then us vs room t e = rows_passed (first_off_grid us vs) (line_rows us vs zero_float) (output_short room (length us) ∷ []) tt t e
+then us vs room t e h = rw (rows_passed (first_off_grid us vs) (line_rows us vs zero_float) (output_short room (length us) ∷ []) tt t e, h)
 
-pub returns-in-Refused : goal.returns-in-Refused
+pub returns-in_err-line_reason : goal.returns-in_err-line_reason
 unfolding repeat_reason of_bits
-returns-in-Refused c =
+returns-in_err-line_reason c =
     let us = c.args.x.now in
     let vs = c.args.y.now in
-    refused_before (first_off_grid us vs) (line_rows us vs zero_float) (output_short c.args.room (length us) ∷ []) c.in-Refused.reason
-    c.in-Refused.ensures
-
--- the output is too short
-short : {o : Outcome} (us vs : List Float) (room : ℕ) → of_outcome o ≡ verdict (first_of (line_rows us vs zero_float)) (first_off_grid us vs) → o ≡ Done
-    → (output_short room (length us)).applies ≡ true → of_outcome (Refused OutputShort) ≡ verdict (repeat_reason us vs room) (first_off_grid us vs)
-short us vs room t e h = rw (then us vs room t e, h)
+    let e = c.in_err-line_reason in
+    let p = err_from_is_err_and c.from_residual.result c.from_residual.ensures.1 in
+    rw (p.1, p.2) (refused_before (first_off_grid us vs) (line_rows us vs zero_float) (output_short c.args.room (length us) ∷ []) e.field-0.0 e.ensures)
 
 pub returns-then-output_short : goal.returns-then-output_short
 unfolding of_bits
 returns-then-output_short c =
-    short c.args.x.now c.args.y.now c.args.room c.line_reason.ensures c.in_default.is (sym c.output_short.ensures ∙ c.if-output_short.true)
+    rw (then c.args.x.now c.args.y.now c.args.room c.line_reason.ensures c.in_ok-line_reason.was (sym c.output_short.ensures ∙ c.if-output_short.true))
 
 pub returns : goal.returns
 unfolding of_bits
-returns c =
-    rw (then c.args.x.now c.args.y.now c.args.room c.line_reason.ensures c.in_default.is, sym c.output_short.ensures ∙ c.if-output_short.false)
+returns c = rw (then c.args.x.now c.args.y.now c.args.room c.line_reason.ensures c.in_ok-line_reason.was (sym c.output_short.ensures ∙ c.if-output_short.false))

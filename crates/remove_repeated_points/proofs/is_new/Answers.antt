@@ -1,48 +1,43 @@
--- `remove_repeated_points::is_new` meets its contract. The invariant: the points from j on were compared, and none equals point i. Assumes nothing.
-use mathlib.Core.Path.{◌≡◌, sym, ap, ◌∙◌}
-use mathlib.Core.Bool.{Bool, true, false, not, ◌||◌}
+-- `remove_repeated_points::is_new` meets its contract. Assumes nothing.
+use mathlib.Core.Path.{◌≡◌, refl, sym, ap, ◌∙◌}
+use mathlib.Core.Bool.{not, ◌||◌, or_comm, or_assoc}
 use mathlib.Core.List.{List}
-use Prim.Native.Nat.{ℕ, suc, ◌<◌, ◌-◌, ◌+◌}
+use Prim.Native.Nat.{ℕ, zero, suc, ◌+◌, ◌-◌}
+use native.Mathlib.Nat.{add-zero}
+use native.Mathlib.Numerals.{add-one}
 use native.Mathlib.Omega.{arith}
+use Rattle.std.proofs.Common.{rules, tests}
+use Rattle.std.specs.List.{list_any, range_with_len}
+use Rattle.std.proofs.lemmas.Iterator.{YieldsList-from_range}
+use Rattle.std.proofs.lemmas.Iterator.Search.{any_from_yields_List}
 use Rattle.rule.specs.Grid.{Point, points, at}
 use Rattle.rule.specs.Segment.{same}
 use Rattle.remove_repeated_points.specs.Back.{among, is_new}
 use Rattle.remove_repeated_points.proofs.is_new.Goals as goal
 
--- the point before j is looked at next
-next : (ps : List Point) (p : Point) (from j : ℕ) → from < j → (b : Bool) → same p (at ps (j - 1)) ≡ b
-    → among ps p from (j - from) ≡ (b || among ps p from (j - 1 - from))
+-- the first looked at first
+forward : (ps : List Point) (p : Point) (m a : ℕ) → (same p (at ps a) || among ps p (suc a) m) ≡ among ps p a (suc m)
 unfolding among
-next ps p from j h b e =
-    let s : j - from ≡ suc (j - 1 - from) = omega arith in
-    let k : from + (j - 1 - from) ≡ j - 1 = omega arith in
-    rw (s, k, e)
+forward ps p zero a = rw (add-zero a)
+forward ps p (suc m) a =
+    let s = same p (at ps a) in
+    let t = same p (at ps (suc a + m)) in
+    let r = among ps p (suc a) m in
+    let e : a + suc m ≡ suc a + m = omega arith in
+    let h : (s || (t || r)) ≡ (t || (s || r)) = sym (or_assoc s t r) ∙ ap (λ b. b || r) (or_comm s t) ∙ or_assoc t s r in
+    rw (e, ← forward ps p m a) h
 
-pub loop-j-init : goal.loop-j-init
-unfolding is_new
-loop-j-init c =
-    let a = c.args in
-    let ps = points a.x.now a.y.now in
-    let e : c.start-from.result ≡ a.i - a.back = c.start-from.ensures in
-    (omega arith, omega arith, ap (λ (k : ℕ). not (among ps (at ps a.i) k (a.i - k))) (sym e))
-
-pub same_point-requires : goal.same_point-requires
-same_point-requires c = (c.requires.0, omega (arith, c.requires.1), omega (arith, c.requires.1))
-
-pub returns-then-same_point : goal.returns-then-same_point
-returns-then-same_point c =
-    let ps = points c.args.x.now c.args.y.now in
-    let seen = next ps (at ps c.args.i) c.start-from.result c.loop-j.j c.loop-j-test.true true (sym c.same_point.ensures ∙ c.if-same_point.true) in
-    sym (c.loop-j.invariant.2 ∙ ap not seen)
-
-pub loop-j-preserved : goal.loop-j-preserved
-loop-j-preserved c =
-    let ps = points c.args.x.now c.args.y.now in
-    let seen = next ps (at ps c.args.i) c.start-from.result c.loop-j.j c.loop-j-test.true false (sym c.same_point.ensures ∙ c.if-same_point.false) in
-    (omega arith, omega arith, c.loop-j.invariant.2 ∙ ap not seen)
+one_by_one : (ps : List Point) (p : Point) (m a : ℕ) → list_any (λ j. same p (at ps j)) (range_with_len a m) ≡ among ps p a m
+unfolding among
+one_by_one ps p zero a = refl
+one_by_one ps p (suc m) a = rw (add-one a, one_by_one ps p m (suc a)) (forward ps p m a)
 
 pub returns : goal.returns
-unfolding among
+unfolding is_new
 returns c =
-    let e : c.loop-j.j - c.start-from.result ≡ 0 = omega arith in
-    rw e at (sym c.loop-j.invariant.2)
+    let ps = points c.args.p.x.now c.args.p.y.now in
+    let p = at ps c.args.i in
+    let from = c.args.i - c.args.back in
+    let m = c.args.i - from in
+    let found = any_from_yields_List (λ j. same p (at ps j)) _ _ c.any.result c.any.ensures.ran (YieldsList-from_range from c.args.i m (search rules) refl) (λ x b q k. search (rules, tests)) in
+    ap not (found ∙ one_by_one ps p m from)

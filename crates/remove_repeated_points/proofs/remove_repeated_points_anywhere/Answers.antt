@@ -1,8 +1,6 @@
 -- `remove_repeated_points::remove_repeated_points_anywhere` meets its contract. Assumes nothing.
 use native.Mathlib.Omega.{arith}
-use lib.ListN.{length}
 use Rattle.rule.specs.Sizes.{most_points}
-use Rattle.rule.specs.Grid.{points}
 use Rattle.rule.specs.Repeat.{anywhere}
 use Rattle.lent.proofs.Points.{length_points}
 use Rattle.lent.proofs.Rows.{repeat_fine}
@@ -13,9 +11,6 @@ use Rattle.remove_repeated_points.proofs.remove_repeated_points_anywhere.Goals a
 
 pub returns : goal.returns
 returns c =
-    let a = c.args in
-    let us = a.x.now in
-    let vs = a.y.now in
-    same_call (all_new most_points) anywhere us vs a.out.now
-    (λ z. let f = repeat_fine us vs (length a.out.now) z in anywhere_is most_points (points us vs) (omega (arith, f.few, length_points f)))
+    same_call (all_new most_points) anywhere _ _ _
+    (λ z. let f = repeat_fine c.args.x.now c.args.y.now _ z in anywhere_is _ _ (omega (arith, f.few, length_points f)))
     c.keep_new.ensures

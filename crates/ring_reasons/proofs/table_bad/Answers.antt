@@ -1,29 +1,29 @@
 -- `ring_reasons::table_bad` meets its contract. Assumes nothing.
-use mathlib.Core.Path.{sym, ◌∙◌}
-use native.Mathlib.Omega.{arith}
-use Rattle.ring_reasons.proofs.Table.{rising_start, rising_more, bad_empty, bad_long, bad_falls, bad_end}
+use Rattle.std.proofs.Common.{rules}
+use Rattle.std.proofs.lemmas.List.Sorted.{non_decreasing_from_is_sorted}
+use Rattle.ring_reasons.proofs.Table.{too_long, falls_is, ends_is, bad_so_far, bad_at_end}
 use Rattle.ring_reasons.proofs.table_bad.Goals as goal
+use Rattle.ring_reasons.proofs.table_bad.Goals.{then-table-gt-RINGS, else-table-gt-RINGS}
 
-pub returns-then-table-eq0 : goal.returns-then-table-eq0
-returns-then-table-eq0 c = bad_empty _ _ (sym c.new-table.ensures ∙ c.if-table-eq0.true)
-
-pub returns-then-table-gt-RINGS : goal.returns-then-table-gt-RINGS
-returns-then-table-gt-RINGS c =
+pub returns-then-not-is_sorted : goal.returns-then-not-is_sorted
+returns-then-not-is_sorted c =
+    let table = c.args.rings.now in
     let n = c.new-table.ensures in
-    bad_long _ _ (omega (arith, n, c.if-table-gt-RINGS.true))
+    elim c.if-table-gt-RINGS.branch [
+      | then-table-gt-RINGS w ↦ bad_so_far _ table (too_long table n w.if-table-gt-RINGS.true w.value-is) c.if-not-is_sorted.true
+      | else-table-gt-RINGS w ↦
+          bad_so_far _ table (falls_is table w.is_sorted.result n w.if-table-gt-RINGS.false (non_decreasing_from_is_sorted _ _ w.is_sorted.ensures.cases) w.value-is)
+          c.if-not-is_sorted.true
+    ]
 
-pub loop-k-init : goal.loop-k-init
-loop-k-init c = rising_start
-
-pub returns-then-hi-last : goal.returns-then-hi-last
-returns-then-hi-last c =
-    bad_falls c.loop-k.invariant c.loop-k-test.true _ c.if-hi-last.true
-
-pub loop-k-preserved : goal.loop-k-preserved
-loop-k-preserved c =
-    rising_more c.loop-k.invariant c.loop-k-test.true c.if-hi-last.false
-
-pub returns : goal.returns
-returns c =
+pub returns-else-not-is_sorted : goal.returns-else-not-is_sorted
+returns-else-not-is_sorted c =
+    let table = c.args.rings.now in
     let n = c.new-table.ensures in
-    bad_end c.loop-k.invariant _ c.loop-k-test.false (λ z. c.if-table-eq0.false (n ∙ z)) (omega (arith, n, c.if-table-gt-RINGS.false))
+    let last = ends_is c.args.points table c.last.result c.is_none_or.result c.last.ensures.value c.is_none_or.ensures (λ e q. search rules) in
+    elim c.if-table-gt-RINGS.branch [
+      | then-table-gt-RINGS w ↦ bad_at_end _ table (too_long table n w.if-table-gt-RINGS.true w.value-is) c.if-not-is_sorted.false last
+      | else-table-gt-RINGS w ↦
+          bad_at_end _ table (falls_is table w.is_sorted.result n w.if-table-gt-RINGS.false (non_decreasing_from_is_sorted _ _ w.is_sorted.ensures.cases) w.value-is)
+          c.if-not-is_sorted.false last
+    ]

@@ -1,12 +1,7 @@
 -- `scores::first_of_two` meets its contract. Assumes nothing.
 use native.Mathlib.Omega.{arith}
-use Rattle.scores.proofs.Children.{child_is, first_one, first_join}
+use Rattle.scores.proofs.Children.{first_one, first_join}
 use Rattle.scores.proofs.first_of_two.Goals as goal
-
-pub sooner_of-requires : goal.sooner_of-requires
-sooner_of-requires c =
-    let ok = c.requires in
-    (child_is ok (omega arith) c.child_at-a.ensures, child_is ok (omega arith) c.child_at-b.ensures)
 
 pub returns : goal.returns
 returns c =

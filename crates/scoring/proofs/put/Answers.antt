@@ -1,13 +1,13 @@
 -- `scoring::put` meets its contract. Assumes nothing.
-use Rattle.scoring.proofs.Putting.{put_full, put_missing, put_pushes}
+use Rattle.std.proofs.Common.{refl, add-one}
+use Rattle.scoring.specs.Putting.{pushes, full, nothing}
 use Rattle.scoring.proofs.put.Goals as goal
 
-pub returns-then-m-len : goal.returns-then-m-len
-returns-then-m-len c = put_full _ c.if-m-len.true
+pub returns-then-len-m : goal.returns-then-len-m
+returns-then-len-m c = rw c.in-Some.is (pushes (record { room = c.if-len-m.true; pushed = c.push.ensures; count = add-one c.args.len.now }))
 
-pub returns-in-Missing : goal.returns-in-Missing
-returns-in-Missing c = put_missing c.in-Missing.is
+pub returns-else-len-m : goal.returns-else-len-m
+returns-else-len-m c = rw c.in-Some.is (full c.if-len-m.false (record { floats = refl; words = refl; count = refl }))
 
-pub returns-in-Score : goal.returns-in-Score
-returns-in-Score c =
-    put_pushes c.in-Score.is c.if-m-len.false c.push.ensures
+pub returns-in_default : goal.returns-in_default
+returns-in_default c = rw c.in_default.is (nothing (record { floats = refl; words = refl; count = refl }))

@@ -1,25 +1,11 @@
 -- `segment::reaches` meets its contract. Assumes nothing.
+use Rattle.std.proofs.Common.{rules, arith}
+use Rattle.std.proofs.lemmas.Grind.{common_steps}
 use Rattle.grid.proofs.Whole.{le_grid}
 use Rattle.segment.proofs.reaches.Goals as goal
 
-pub returns-then-a-c : goal.returns-then-a-c
-returns-then-a-c k a b c d = rw (← le_grid _ _ a c, k.if-a-c.true)
-
-pub returns-then-a-d : goal.returns-then-a-d
-returns-then-a-d k a b c d = rw (← le_grid _ _ a c, k.if-a-c.false, ← le_grid _ _ a d, k.if-a-d.true)
-
 pub returns-then-b-c : goal.returns-then-b-c
-returns-then-b-c k a b c d =
-    rw (← le_grid _ _ a c, k.if-a-c.false, ← le_grid _ _ a d, k.if-a-d.false, ← le_grid _ _ b c, k.if-b-c.true)
+returns-then-b-c k a b c d = rw (← le_grid _ _ a c, ← le_grid _ _ a d, ← le_grid _ _ b c, ← le_grid _ _ b d) (search rules)
 
-pub returns : goal.returns
-returns k a b c d =
-    rw (
-      ← le_grid _ _ a c,
-      k.if-a-c.false,
-      ← le_grid _ _ a d,
-      k.if-a-d.false,
-      ← le_grid _ _ b c,
-      k.if-b-c.false,
-      ← le_grid _ _ b d,
-    )
+pub returns-else-b-c : goal.returns-else-b-c
+returns-else-b-c k a b c d = rw (← le_grid _ _ a c, ← le_grid _ _ a d, ← le_grid _ _ b c, ← le_grid _ _ b d) (grind (arith, common_steps))

@@ -1,10 +1,6 @@
 -- `simplify_vw::visvalingam_indices` meets its contract. Assumes nothing.
-use Rattle.lent.proofs.Points.{runs_fit}
 use Rattle.simplify_vw.proofs.Calls.{keeps_rule}
 use Rattle.simplify_vw.proofs.visvalingam_indices.Goals as goal
-
-pub remove_all-requires : goal.remove_all-requires
-remove_all-requires c = runs_fit c.requires c.scratch-m.ensures
 
 pub returns : goal.returns
 returns c =

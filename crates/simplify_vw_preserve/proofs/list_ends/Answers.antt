@@ -1,22 +1,10 @@
 -- `simplify_vw_preserve::list_ends` meets its contract. Assumes nothing.
-use native.Mathlib.Omega.{arith}
 use Rattle.ring_reasons.proofs.Cut.{next_to}
-use Rattle.simplify_vw_preserve.proofs.Ending.{ending_start, ending_more, ending_end}
+use Rattle.simplify_vw_preserve.proofs.Ending.{ending_more}
 use Rattle.simplify_vw_preserve.proofs.list_ends.Goals as goal
 
-pub loop-k-init : goal.loop-k-init
-loop-k-init c = ending_start c.requires.2
-
-pub count_below-count-requires : goal.count_below-count-requires
-count_below-count-requires c =
-    (c.requires.0, next_to c.loop-k.invariant.cut c.loop-k-test.true)
-
-pub bounds-ends-k : goal.bounds-ends-k
-bounds-ends-k c = omega (arith, c.loop-k-test.true, c.loop-k.invariant.size, c.requires.3)
+pub count_below-requires : goal.count_below-requires
+count_below-requires c = next_to c.loop-k.invariant.cut c.loop-k-test.true
 
 pub loop-k-preserved : goal.loop-k-preserved
-loop-k-preserved c =
-    ending_more c.loop-k.invariant c.loop-k-test.true c.requires.3 c.count_below-count.ensures.1
-
-pub returns : goal.returns
-returns c = ending_end c.loop-k.invariant c.loop-k-test.false
+loop-k-preserved c = ending_more c.loop-k.invariant c.loop-k-test.true c.requires.2 c.count_below.ensures.1

@@ -7,7 +7,7 @@ pub vwp_wrapper-requires : goal.vwp_wrapper-requires
 vwp_wrapper-requires c =
     let p = c.requires in
     let f = runs_fit p c.scratch-m.ensures in
-    (f.0, f.1, f.2, rw c.scratch-m.ensures (one_ring _), behind_fits p c.scratch-m.ensures)
+    (f.1, f.2, rw c.scratch-m.ensures (one_ring _), behind_fits p c.scratch-m.ensures)
 
 pub returns : goal.returns
 returns c =

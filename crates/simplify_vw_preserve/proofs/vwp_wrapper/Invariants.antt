@@ -1,12 +1,8 @@
-use Prim.Native.Nat.{◌-◌}
-use lib.ListN.{length}
-use Rattle.thin_ring.specs.Calls.{minima}
+use Rattle.thin_ring.specs.Calls.{of_minima}
 use Rattle.simplify_vw_preserve.proofs.Thinning.{Thinning}
 use Rattle.simplify_vw_preserve.proofs.vwp_wrapper.Given as goal
 
-abbrev pub invariant-loop-k : goal.invariant-loop-k
-invariant-loop-k l =
-    Thinning l.b l.x l.y l.initial.floats l.initial.words l.m l.rings (minima l.first l.second) l.tolerance l.floats l.words l.lo l.k
-
-abbrev pub decreases-loop-k : goal.decreases-loop-k
-decreases-loop-k l = length l.rings - l.k
+abbrev pub invariant-loop-end : goal.invariant-loop-end
+invariant-loop-end l =
+    Thinning l.thinning.blocks l.thinning.plot.x.now l.thinning.plot.y.now l.initial.floats l.initial.words l.thinning.plot.m l.rings
+    (of_minima l.thinning.minima) l.thinning.tolerance l.floats l.words l.lo l.end-index

@@ -15,4 +15,4 @@ unfolding is_open
 returns c =
     let ws = c.args.words.now in
     ap (λ (w : ℕ). not (eqb w 0))
-    (ap (λ (i : ℕ). get_or ws i 0) (omega (arith, c.new-place.ensures.1)) ∙ sym (piece_at slot_words c.args.slot.0 ws 0 0 (omega arith)))
+    (ap (λ (i : ℕ). get_or ws i 0) (omega (arith, c.new.ensures.1)) ∙ sym (piece_at slot_words c.args.slot.0 ws 0 0 (omega arith)))

@@ -1,8 +1,8 @@
 use Rattle.thin.proofs.PickTurns.{Picking}
 use Rattle.thin.proofs.pick.Given as goal
 
-abbrev pub invariant-loop-k : goal.invariant-loop-k
-invariant-loop-k l = Picking l.initial.floats l.initial.words l.m l.len l.floats l.words l.k
+abbrev pub invariant-loop-len : goal.invariant-loop-len
+invariant-loop-len l = Picking l.initial.floats l.initial.words l.m l.initial.len l.floats l.words l.len
 
-abbrev pub decreases-loop-k : goal.decreases-loop-k
-decreases-loop-k l = l.k
+abbrev pub decreases-loop-len : goal.decreases-loop-len
+decreases-loop-len l = l.len

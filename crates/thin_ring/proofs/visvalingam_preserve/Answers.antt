@@ -1,8 +1,0 @@
--- `thin_ring::visvalingam_preserve` meets its contract. Assumes nothing.
-use Rattle.thin_ring.proofs.Running.{ring_law}
-use Rattle.thin_ring.proofs.visvalingam_preserve.Goals as goal
-
-pub returns : goal.returns
-returns c =
-    let z = c.requires in
-    ring_law _ _ _ _ _ _ _ _ _ _ z.1 z.5 c.seed-len.ensures c.run.ensures
