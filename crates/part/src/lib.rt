@@ -1,7 +1,7 @@
 // A slot's part of the work area: begun, stepped, listed, whatever it holds.
 #![tactic(auto)]
 
-ghost use Rattle.std.specs.Prelude.{◌≡◌, true, length};
+ghost use Rattle.std.specs.Prelude.{◌≤◌, ◌+◌, ◌≡◌, true, length};
 ghost use Rattle.rule.specs.Sizes.{slot_floats, slot_words};
 ghost use Rattle.rule.specs.Grid.{points, is_finite};
 ghost use Rattle.rule.specs.Plain.{all};
@@ -9,7 +9,7 @@ ghost use Rattle.rule.specs.Answers.{of_step, of_listing};
 ghost use Rattle.rule.specs.Area.{area};
 ghost use Rattle.lent.specs.Fine.{Fine};
 ghost use Rattle.part.specs.Rep.{Rep};
-ghost use Rattle.part.specs.Parts.{StepsPart, ReadsPart};
+ghost use Rattle.part.specs.Parts.{StepsPart, ReadsPart, Copied};
 
 use layout::{Layout, Plot};
 use links::Linked;
@@ -24,8 +24,8 @@ pub fn fill(floats: &mut [f64], words: &mut [u32], x: &[f64], y: &[f64], toleran
     let n = x.len();
     let m = Layout::slot(n);
     floats[m.x - 1] = tolerance;
-    floats[m.x..m.x + n].copy_from_slice(x);
-    floats[m.y..m.y + n].copy_from_slice(y);
+    copy(floats, m.x, x);
+    copy(floats, m.y, y);
     // The scores are made from the lent points.
     let p = Plot {
         x,
@@ -37,6 +37,17 @@ pub fn fill(floats: &mut [f64], words: &mut [u32], x: &[f64], y: &[f64], toleran
     words[0] = 1;
     words[1] = n as u32;
     words[2] = len as u32;
+}
+
+// Copies all of `from` to the places from `at` on.
+// As it is: `copy_from_slice` would have the archive need memmove, and the unit has memset and memcpy alone (tools/arm64).
+fn copy(to: &mut [f64], at: usize, from: &[f64])
+    requires { at + length from.now ≤ length to.old }
+    ensures { Copied to.old at from.now (length from.now) to.new }
+{
+    for i in 0..from.len() {
+        to[at + i] = from[i];
+    }
 }
 
 // Makes one removal in a part, whatever it holds.
