@@ -7,8 +7,7 @@ use native.Mathlib.Decide.{dec_lt}
 use native.Mathlib.Nat.{div-eq_of_lt-le}
 use native.Mathlib.Omega.{arith}
 use lib.Ieee.{Float}
-use Rattle.std.specs.Prelude.{min, max, Option, Some, None}
-use Rattle.std.specs.Option.{is_some}
+use Rattle.std.specs.Prelude.{min, max}
 use Rattle.rule.specs.Grid.{Point, at}
 use Rattle.rule.specs.Segment.{same, meets}
 use Rattle.rule.specs.Preserve.{against}
@@ -22,7 +21,7 @@ use Rattle.blocks.specs.declared.Blocks.{Blocks}
 use Rattle.blocks.specs.Boxes.{box_at, spanned, Spans, Boxed}
 use Rattle.blocks.proofs.Made.{Spanning, spanned_both}
 use Rattle.crossing.specs.Crossing.{AgainstAt, CrossesIs}
-use Rattle.crossing.specs.Passing.{Ringed, NoneAgainst, Walks, WalkDone}
+use Rattle.crossing.specs.Passing.{Ringed, NoneAgainst, Walks}
 use Rattle.crossing.proofs.Crossing.{rings_false, against_as}
 
 -- ---- from a point to the next
@@ -53,16 +52,26 @@ unfolding against
 meets_not ps l r a b e =
     rw e (and-false (not (same (at ps a) (at ps l) || same (at ps a) (at ps r) || same (at ps b) (at ps l) || same (at ps b) (at ps r))))
 
+-- where block k ends: the points past the last block are one without a box
+pub record Ends (b : Blocks) (m : Layout) (k end : ℕ) : Type 0 where
+  pub block : k < b.number → end ≡ min ((k + 1) * b.size) m.points
+  pub rest : b.number ≤ k → end ≡ m.points
+
 module _ (b : Blocks) (m : Layout) (us vs fs : List Float) (ws : List ℕ) (l r : ℕ) where
   -- the blocks before k and the points below `from` are passed
   pub record Tested (from k : ℕ) : Type 0 where
-    pub near : min (k * b.size) m.points ≤ from
+    pub near : k ≤ b.number → min (k * b.size) m.points ≤ from
+    pub past : b.number < k → m.points ≤ from
     pub none : (ps : List Point) → PlacedIn us vs m ps → Boxed b m ps fs ws → Ringed ws m → NoneAgainst m ps ws 0 from l r
 
-  module _ {from k end : ℕ} (t : Tested from k) (is : end ≡ min ((k + 1) * b.size) m.points) where
+  module _ {from k end : ℕ} (t : Tested from k) (is : Ends b m k end) where
     -- block k is walked
     pub tested_walk : {j : ℕ} → Walks m us vs ws from end l r j → Tested j (k + 1)
-    tested_walk {j} w = record { near = omega (arith, w.far); none = λ ps p bx g i a z st. go ps p bx g i z st (dec_lt i from) }
+    tested_walk {j} w = record {
+      near = λ h. omega (arith, is.block (omega arith), w.far);
+      past = λ h. omega (arith, is.rest (omega arith), w.far);
+      none = λ ps p bx g i a z st. go ps p bx g i z st (dec_lt i from);
+    }
       where
         go : (ps : List Point) → PlacedIn us vs m ps → Boxed b m ps fs ws → Ringed ws m → (i : ℕ) → i < j → Starts ws m i → Dec (i < from)
             → against ps l r i (next_at ws m i) ≡ false
@@ -77,7 +86,7 @@ module _ (b : Blocks) (m : Layout) (us vs fs : List Float) (ws : List ℕ) (l r 
           (apart_none (box_at fs b k) (spanned m us vs of_none l r) (bx.on k low) s.on held.first held.second s.new.first s.new.second e)
         where
           here : i / b.size ≡ k
-          here = div-eq_of_lt-le b.size (omega (arith, t.near)) (omega arith)
+          here = div-eq_of_lt-le b.size (omega (arith, t.near (omega arith))) (omega (arith, is.block low))
 
           held : Spans ps i (next_at ws m i) (box_at fs b k)
           held = subst (λ (x : ℕ). Spans ps i (next_at ws m i) (box_at fs b x)) here (bx.holds i (omega arith) (omega (arith, here)) st)
@@ -86,24 +95,17 @@ module _ (b : Blocks) (m : Layout) (us vs fs : List Float) (ws : List ℕ) (l r 
           s = spanned_both m us vs ps of_none l r p hl hr none_on
 
       pub tested_apart : {n : ℕ} → n ≡ end → Tested n (k + 1)
-      tested_apart {n} y = record { near = omega arith; none = λ ps p bx g i a z st. go ps p bx g i z st (dec_lt i from) }
+      tested_apart {n} y = record {
+        near = λ h. omega (arith, is.block low);
+        past = λ h. absurd (omega arith);
+        none = λ ps p bx g i a z st. go ps p bx g i z st (dec_lt i from);
+      }
         where
           go : (ps : List Point) → PlacedIn us vs m ps → Boxed b m ps fs ws → Ringed ws m → (i : ℕ) → i < n → Starts ws m i → Dec (i < from)
               → against ps l r i (next_at ws m i) ≡ false
           go ps p bx g i z st (yes q) = t.none ps p bx g i (omega arith) q st
           go ps p bx g i z st (no q) = apart_block ps p bx i (omega arith) (omega arith) st
 
-  -- the points from there on are walked
-  pub tested_end : {from k : ℕ} → Tested from k → (c : Option ℕ) → WalkDone m us vs ws from m.points l r c → (t : Bool) → is_some c ≡ not t
-      → CrossesIs b m us vs fs ws l r t
-  tested_end s None d true e ps ends kss p bx rs = sym (d.walked ps ends kss p rs)
-  tested_end s None d false e ps ends kss p bx rs = cc
-  tested_end s (Some j) d true e ps ends kss p bx rs = cc
-  tested_end {from} s (Some j) d false e ps ends kss p bx rs = sym (rings_false ps l r ws m 0 ends kss rs (λ i low st. go i low st (dec_lt i from)))
-    where
-      g : Ringed ws m
-      g = record { ends = ends; kept = kss; rings = rs }
-
-      go : (i : ℕ) → i < m.points → Starts ws m i → Dec (i < from) → against ps l r i (next_at ws m i) ≡ false
-      go i low st (yes q) = s.none ps p bx g i (omega arith) q st
-      go i low st (no q) = d.walked.none ps p g i (omega arith) (omega (arith, d.walked.far)) st
+  -- all are passed
+  pub tested_end : {from k : ℕ} → Tested from k → b.number < k → CrossesIs b m us vs fs ws l r false
+  tested_end s h ps ends kss p bx rs = sym (rings_false ps l r ws m 0 ends kss rs (λ i low st. s.none ps p bx (record { ends = ends; kept = kss; rings = rs }) i (omega arith) (omega (arith, s.past h)) st))

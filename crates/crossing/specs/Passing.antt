@@ -1,11 +1,19 @@
--- What a walk through the links finds. Assumes nothing.
-use Rattle.std.specs.Prelude.{◌≡◌, true, false, List, ℕ, ◌≤◌, ◌<◌, Float, Option, Some, None}
+-- Which blocks are left out, and what a walk through the links finds. Assumes nothing.
+use Rattle.std.specs.Prelude.{◌≡◌, Bool, true, false, ◌&&◌, List, ℕ, ◌≤◌, ◌<◌, ltb, Float, Option, Some, None}
 use Rattle.rule.specs.Grid.{Point}
 use Rattle.rule.specs.Preserve.{against, crosses}
 use Rattle.layout.specs.declared.Layout.{Layout}
 use Rattle.layout.specs.Points.{PlacedIn}
 use Rattle.links.specs.Words.{next_at, Starts}
 use Rattle.links.specs.Ring.{Rings}
+use Rattle.bounds.specs.declared.Bounds.{Bounds}
+use Rattle.bounds.specs.Bounds.{apart}
+use Rattle.blocks.specs.declared.Blocks.{Blocks}
+use Rattle.blocks.specs.Boxes.{box_at}
+
+-- block k, which ends at `end`, is left out, if the points below `from` are passed: exactly where its box is apart from the new segment's
+abbrev pub left_out : (fs : List Float) (b : Blocks) (k : ℕ) (new : Bounds) (from end : ℕ) → Bool
+left_out fs b k new from end = ltb from end && ltb k b.number && apart (box_at fs b k) new
 
 -- the links are those of rings, each by where it ends and what is kept of it
 pub record Ringed (ws : List ℕ) (m : Layout) : Type 0 where

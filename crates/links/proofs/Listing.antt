@@ -2,14 +2,12 @@
 use mathlib.Core.Path.{◌≡◌, refl, sym, ap, ◌∙◌, subst}
 use mathlib.Core.Bool.{Bool, true, false, cond}
 use mathlib.Core.List.{List, [], ◌∷◌, ◌++◌, append-nil}
-use Prim.Native.Nat.{ℕ, zero, suc, ◌+◌, ◌≤◌, ◌<◌, min}
+use Prim.Native.Nat.{ℕ, ◌+◌, ◌≤◌, ◌<◌, min}
 use native.Mathlib.Nat.{zero-add}
 use native.Mathlib.Omega.{arith}
 use lib.Dec.{eqb}
-use lib.ListN.{length, get_or, set, take, length-append, length-take}
+use lib.ListN.{length, set, take, length-append, length-take}
 use lib.Seq.{take_all, take-nil, take-append-le}
-use Rattle.std.specs.List.{count_by, filter}
-use Rattle.std.proofs.lemmas.List.Sums.{length-filter}
 use Rattle.layout.specs.declared.Layout.{Layout}
 use Rattle.rule.specs.Whole.{over}
 use Rattle.laws.proofs.Over.{over_more}
@@ -33,24 +31,27 @@ module _ (mark : ℕ → ℕ) (i : ℕ) where
 
 -- ---- counted
 
--- as many as those of n marks in a row, from that of point i on, which are 0
-pub kept_counted : (mark : ℕ → ℕ) (i n : ℕ) (xs : List ℕ) → length xs ≡ n → ((k : ℕ) → k < n → get_or xs k 0 ≡ mark (i + k))
-    → length (kept_from mark i n) ≡ count_by (λ x. eqb x 0) xs
+-- of the points before i so many have no mark
+pub record Counting (mark : ℕ → ℕ) (i c : ℕ) : Type 0 where
+  pub few : c ≤ i
+  pub number : c ≡ length (kept_from mark 0 i)
+
+pub counting_start : (mark : ℕ → ℕ) → Counting mark 0 0
 unfolding kept_from
-kept_counted mark i n xs l h = go i n xs l h ∙ length-filter (λ x. eqb x 0) xs
-  where
-    go : (i n : ℕ) (xs : List ℕ) → length xs ≡ n → ((k : ℕ) → k < n → get_or xs k 0 ≡ mark (i + k)) → length (kept_from mark i n) ≡ length (filter (λ x. eqb x 0) xs)
-    go i zero [] l h = refl
-    go i zero (x ∷ xs) l h = absurd (omega arith)
-    go i (suc n) [] l h = absurd (omega arith)
-    go i (suc n) (x ∷ xs) l h =
-        let e : x ≡ mark i = h 0 (omega arith) ∙ ap mark (omega arith) in
-        rw e (step (eqb (mark i) 0) (go (suc i) n xs (omega arith) (λ k q. h (suc k) (omega arith) ∙ ap mark (omega arith))))
-      where
-        step : (b : Bool) → length (kept_from mark (suc i) n) ≡ length (filter (λ x. eqb x 0) xs)
-            → length (cond b (i ∷ kept_from mark (suc i) n) (kept_from mark (suc i) n)) ≡ length (cond b (mark i ∷ filter (λ x. eqb x 0) xs) (filter (λ x. eqb x 0) xs))
-        step true r = ap suc r
-        step false r = r
+counting_start mark = record { few = omega arith; number = refl }
+
+module _ {mark : ℕ → ℕ} {i c : ℕ} (s : Counting mark i c) where
+  pub counting_kept : eqb (mark i) 0 ≡ true → Counting mark (i + 1) (c + 1)
+  counting_kept e = record {
+    few = omega (arith, s.few);
+    number = ap (λ (x : ℕ). x + 1) s.number ∙ sym (ap length (kept_one mark i e) ∙ length-append (kept_from mark 0 i) (i ∷ []));
+  }
+
+  pub counting_gone : eqb (mark i) 0 ≡ false → Counting mark (i + 1) c
+  counting_gone e = record { few = omega (arith, s.few); number = s.number ∙ sym (ap length (kept_none mark i e)) }
+
+pub counting_as : {mark : ℕ → ℕ} {i c c' : ℕ} → c' ≡ c → Counting mark i c → Counting mark i c'
+counting_as {mark} {i} e s = subst (Counting mark i) (sym e) s
 
 -- ---- listed
 

@@ -67,11 +67,14 @@ impl Linked<'_> {
         requires { hi ≤ self.m.points }
         ensures { (result ≤ hi) × (result ≡ length (kept_from (mark_at self.entry.words.now self.entry.m) 0 hi)) }
     {
-        let marks = self.m.links + 2 * self.m.points;
-        self.words[marks..marks + hi]
-            .iter()
-            .filter(|mark| **mark == 0)
-            .count()
+        let mut below = 0;
+        // As it is: a `filter` with its `count` goes from one kept point to the next, which takes a branch at each mark and is slower.
+        for i in 0..hi {
+            if self.kept(i) {
+                below += 1;
+            }
+        }
+        below
     }
 
     // Lists the kept points from the start of out, as far as there is room, and says how many.

@@ -1,8 +1,7 @@
 // Reads numbers from lines of text, where blanks part them. What is missing at a line's end reads as 0.
 #![tactic(auto)]
 
-ghost use Rattle.std.specs.Prelude.{◌≡◌, ℕ, min, Bool, List, length, drop, take_while, ◌≤◌, ◌==◌};
-ghost use Rattle.std.specs.List.{prefix_len};
+ghost use Rattle.std.specs.Prelude.{◌≡◌, ℕ, min, Bool, List, length, drop, take_while, ◌≤◌, ◌==◌, IfOk};
 ghost use Rattle.numbers.specs.Reading.{
   byte_at,
   next_line,
@@ -16,6 +15,25 @@ ghost use Rattle.numbers.specs.Reading.{
   past_coordinate,
   ReadInto,
 };
+
+use std::io;
+use std::io::Read;
+
+// Reads until there is no more room or no more input, and gives how many bytes there are.
+pub fn read_full(from: &mut impl Read, into: &mut [u8]) -> io::Result<usize>
+    ensures { IfOk result (λ n. n ≤ length into.new) }
+{
+    let mut done = 0;
+    // As it is: `read_to_end` reads into memory of the heap, and what allocates may fail.
+    while done < into.len() {
+        let n = from.read(&mut into[done..])?;
+        if n == 0 {
+            break;
+        }
+        done += n;
+    }
+    Ok(done)
+}
 
 // A text, and a place in it or past its end.
 #[derive(Clone, Copy)]
@@ -75,29 +93,13 @@ impl<'a> Cursor<'a> {
         ensures passed { result.now ≡ take_while kind (drop self.old.at self.old.text.now) }
         ensures past { self.new ≡ record self.old { at = past kind self.old.text.now self.old.at } }
     {
-        let rest = self.rest();
-        let n = run_len(rest, is_of_kind);
-        self.at += n;
-        &rest[..n]
+        let from = self.at;
+        // As it is: a `take_while` that is counted wants slices of what follows, which cost more than a short run of bytes.
+        while self.at < self.text.len() && is_of_kind(self.text[self.at]) {
+            self.at += 1;
+        }
+        self.text.get(from..self.at).unwrap_or(&[])
     }
-
-    // What follows, or nothing past the text's end.
-    fn rest(&self) -> &'a [u8]
-        ensures { result.now ≡ drop self.now.at self.now.text.now }
-    {
-        self.text.get(self.at..).unwrap_or(&[])
-    }
-}
-
-// How many bytes of a kind a text starts with.
-fn run_len<F: Fn(u8) -> bool>(text: &[u8], is_of_kind: F) -> usize
-    ghost kind: { ℕ → Bool }
-    requires callable { F.IsAlwaysCallable is_of_kind }
-    requires tests { (b : ℕ) (r : Bool) → F.post is_of_kind b r → r ≡ kind b }
-    ensures value { result ≡ prefix_len kind text.now }
-    ensures bound { result ≤ length text.now }
-{
-    text.iter().take_while(|b| is_of_kind(**b)).count()
 }
 
 // What can be read from a text: a `u64` is a whole number, a `u32` the lower half of one, an `f64` a coordinate.
@@ -119,8 +121,13 @@ impl Readable for u64 {
 
     fn read(from: &mut Cursor<'_>) -> u64 {
         from.skip_blanks();
-        let digits = from.pass(|b| b.is_ascii_digit());
-        digits.iter().fold(0, |value, b| with_digit(value, *b))
+        let mut value = 0;
+        // As it is: a `fold` wants the digits as a slice, and goes over them once more.
+        while from.byte().is_ascii_digit() {
+            value = with_digit(value, from.byte());
+            from.at += 1;
+        }
+        value
     }
 }
 

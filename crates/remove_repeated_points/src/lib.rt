@@ -53,5 +53,6 @@ fn is_new(p: Tested, back: usize, i: usize) -> bool
     requires { i < length p.x.now }
     ensures { result ≡ is_new back (points p.entry.x.now p.entry.y.now) i }
 {
-    !(i.saturating_sub(back)..i).any(|j| p.same(i, j))
+    // The last first: a point that repeats one mostly stands shortly behind it.
+    !(i.saturating_sub(back)..i).rev().any(|j| p.same(i, j))
 }

@@ -6,13 +6,20 @@
 // tools/expect-scripts plays the script on a model of document 01, and so works out what must be printed.
 #![tactic(auto)]
 
+ghost use Rattle.std.specs.Prelude.{◌≡◌, length};
+
 use numbers::{Cursor, Readable, least};
 use rule::{Line, Listing, Outcome, Reason, SlotNumber, Step, WorkArea};
 use std::io;
-use std::io::{Read, Write};
+use std::io::Write;
 
 // No more of the script is read.
-const ROOM: u64 = 65536;
+const ROOM: usize = 65536;
+
+// The area, and one place more.
+const FLOATS: usize = WorkArea::FLOATS + 1;
+
+const WORDS: usize = WorkArea::WORDS + 1;
 
 // Every word has its numbers past this place.
 const NUMBERS: usize = 5;
@@ -21,12 +28,18 @@ const NUMBERS: usize = 5;
 const COORDINATES: usize = 2 * (Line::POINTS + 1);
 
 fn main(rt: HostRuntime) -> io::Result<()> {
-    let alloc = rt.alloc();
-    let mut text = Vec::new(alloc);
-    rt.stdin().take(ROOM).read_to_end(&mut text)?;
-    let mut floats = vec![in alloc; 0.5; WorkArea::FLOATS + 1]?;
-    let mut words = vec![in alloc; 7; WorkArea::WORDS + 1]?;
-    play(&rt, &text, &mut floats, &mut words)
+    let mut room: [u8; ROOM] = filled(0);
+    let mut floats: [f64; FLOATS] = filled(0.5);
+    let mut words: [u32; WORDS] = filled(7);
+    let n = numbers::read_full(&mut rt.stdin(), &mut room)?;
+    play(&rt, &room[..n], &mut floats, &mut words)
+}
+
+// Its `ensures` gives only the length, which lending the array as a slice needs.
+fn filled<T: Copy, const N: usize>(value: T) -> [T; N]
+    ensures { N ≡ length result }
+{
+    [value; N]
 }
 
 fn play(rt: &impl Print, text: &[u8], floats: &mut [f64], words: &mut [u32]) -> io::Result<()> {

@@ -3,6 +3,8 @@
 // oracle/README.md has the list's format; tools/make-vectors makes the list, and works out from it what must be printed.
 #![tactic(auto)]
 
+ghost use Rattle.std.specs.Prelude.{◌≡◌, length};
+
 mod call;
 mod list;
 mod replay;
@@ -11,18 +13,24 @@ use call::Call;
 use list::Vector;
 use numbers::Cursor;
 use std::io;
-use std::io::Read;
 
 // No more of standard input is read.
-const ROOM: u64 = 1048576;
+const ROOM: usize = 1048576;
 
 fn main(rt: HostRuntime) -> io::Result<()> {
-    let mut text = Vec::new(rt.alloc());
-    rt.stdin().take(ROOM).read_to_end(&mut text)?;
+    let mut room: [u8; ROOM] = filled(0);
+    let n = numbers::read_full(&mut rt.stdin(), &mut room)?;
     for call in Call::ALL {
-        report(&rt, call, &Tally::of(&text, call))?;
+        report(&rt, call, &Tally::of(&room[..n], call))?;
     }
     Ok(())
+}
+
+// Its `ensures` gives only the length, which lending the array as a slice needs.
+fn filled<T: Copy, const N: usize>(value: T) -> [T; N]
+    ensures { N ≡ length result }
+{
+    [value; N]
 }
 
 #[derive(Default, Drop)]

@@ -1,27 +1,23 @@
 -- `links::Linked::count_below` meets its contract. Assumes nothing.
 use mathlib.Core.Path.{◌≡◌, sym, ◌∙◌}
-use Prim.Native.Nat.{ℕ, ◌+◌, ◌*◌, ◌-◌}
 use native.Mathlib.Omega.{arith}
-use lib.Dec.{eqb}
-use mathlib.Core.List.{List}
-use lib.ListN.{length, take, drop, length-take, length-drop}
-use Rattle.std.proofs.Common.{rules}
-use Rattle.std.specs.List.{count_by}
-use Rattle.std.proofs.lemmas.List.{places}
-use Rattle.std.proofs.lemmas.List.Sums.{count_by-le-length}
-use Rattle.std.proofs.iter.runs.Made.{chains}
-use Rattle.links.specs.Words.{mark_at}
-use Rattle.links.specs.Ring.{kept_from}
-use Rattle.links.proofs.Listing.{kept_counted}
+use Rattle.links.proofs.Listing.{counting_start, counting_kept, counting_gone, counting_as}
 use Rattle.links.proofs.Linked.count_below.Goals as goal
+use Rattle.links.proofs.Linked.count_below.Goals.{then-kept, else-kept}
+
+pub loop-i-init : goal.loop-i-init
+loop-i-init c = counting_start _
+
+pub loop-i-preserved : goal.loop-i-preserved
+loop-i-preserved c =
+    let s = c.loop-i.invariant in
+    elim c.if-kept.branch [
+      | then-kept w ↦ counting_as w.below-is (counting_kept s (sym c.kept.ensures ∙ w.if-kept.true))
+      | else-kept w ↦ counting_as w.below-is (counting_gone s (sym c.kept.ensures ∙ w.if-kept.false))
+    ]
 
 pub returns : goal.returns
 returns c =
-    let ws : List ℕ = c.args.self.words.now in
-    let a : ℕ = c.args.self.m.links + 2 * c.args.self.m.points in
-    let marks : List ℕ = take (a + c.args.hi - a) (drop a ws) in
-    let e : c.count.result ≡ count_by (λ x. eqb x 0) marks = search (rules, chains) in
-    let l : length marks ≡ c.args.hi = simp (length-take, length-drop) (omega arith) in
-    let k : length (kept_from (mark_at ws c.args.self.m) 0 c.args.hi) ≡ count_by (λ x. eqb x 0) marks =
-    kept_counted (mark_at ws c.args.self.m) 0 c.args.hi marks l (λ i h. grind (arith, places)) in
-    (omega (arith, e, l, count_by-le-length (λ x. eqb x 0) marks), e ∙ sym k)
+    let s = c.loop-i.invariant in
+    let e : c.loop-i.i ≡ c.args.hi = omega (arith, c.loop-i-test.false) in
+    (omega (arith, e, s.few), rw e at s.number)
